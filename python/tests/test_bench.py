@@ -76,7 +76,7 @@ def test_inputs_are_named_by_numbers_or_digits(quad: Path) -> None:
         assert bench.status.detectors.active == {4}
         bench.tick()
         assert bench.status.detectors.active == set()
-        wrongs: list[On] = [[17], [0], "2", "0" * 17]
+        wrongs: list[On] = [[65], [0], "2", "0" * 65]
         for wrong in wrongs:
             with pytest.raises(tsb.OutOfRange):
                 bench.tick(vehicles=wrong)
@@ -167,7 +167,8 @@ def test_the_way_back(quad: Path) -> None:
         (lambda bench: bench.back(-3), "back -3: give a number of ticks, 0 or more; a"
          " second has 10 ticks"),
         (lambda bench: bench.seek(7.5), "seek 7.5: give a tick, counted from"
-         " power-up, as a whole number; a second has 10 ticks"),
+         " power-up, as a whole number; a second has 10 ticks, or a time of the clock,"
+         " as '7:42'"),
         (lambda bench: bench.step("7:42"), "step '7:42': give a number of ticks, as a"
          " whole number; a second has 10 ticks"),
         (lambda bench: bench.tick(vehicles=4), "4: give the numbers of inputs in a list,"
@@ -197,8 +198,8 @@ def test_when(quad: Path) -> None:
         assert bench.when("output", 4) == 10 and bench.when("alarm", 4) is None
         assert bench.when("stage") == 10 and bench.when("trip") is None
         assert bench.when("ped", 2) is None
-        with pytest.raises(tsb.BadCommand, match="when output 17"):
-            bench.when("output", 17)
+        with pytest.raises(tsb.BadCommand, match="when output 65"):
+            bench.when("output", 65)
 
 
 def test_when_of_inputs(quad: Path) -> None:
@@ -355,7 +356,7 @@ def test_the_status(quad: Path) -> None:
         assert status.waits[4].cause == "barrier" and status.waits[4].of == 2
         said = "phase 4 waits for the barrier, which phase 2 keeps"
         assert str(status.waits[4]) == said
-        assert status.preempt_state == ("notActive",) * 4
+        assert status.preempt_state == ("notActive",) * 8
         assert status.local_free_status == "commandFree" and status.desk.owner is None
         told = json.loads(line)
         rings, groups = told.pop("rings"), repr(status)

@@ -274,8 +274,8 @@ def test_starts_of_an_export() -> None:
 def test_words_that_lead_nowhere(tmp_path: Path) -> None:
     """They are named, and not the usage of another program."""
     export = frames.export_of_events(frames.of_events([Event(33, 82, 4)]), START, "7")
-    with pytest.raises(Error, match=r"^--device=7 --vehicle=4=17: docs/use/FIELD.md has"):
-        frames.log_of_export(export, START, "7", vehicles={4: 17})
+    with pytest.raises(Error, match=r"^--device=7 --vehicle=4=65: docs/use/FIELD.md has"):
+        frames.log_of_export(export, START, "7", vehicles={4: 65})
 
 
 def test_a_file_of_several_devices(tmp_path: Path) -> None:

@@ -136,7 +136,7 @@ def test_long_lines_and_odd_ones(examples: Path) -> None:
             with pytest.raises(tsb.OutOfRange, match="give the numbers of .* list, as"):
                 bench.tick(vehicles=on)  # type: ignore[arg-type]
         for row in (1, None, b"0001000000000000 00000000 0000"):
-            with pytest.raises(tsb.OutOfRange, match="is no row of 16, 8 and 4 digits"):
+            with pytest.raises(tsb.OutOfRange, match="is no row: "):
                 bench.ticks([row])  # type: ignore[list-item]
         assert bench.now == 0
         assert len(bench.step(np.int64(3))) == 3 and bench.now == 3  # type: ignore

@@ -19,13 +19,12 @@ from tsb.manual import OBJECTS
 from tsb.new import Choice, plan_of
 
 ROOT = ".1.3.6.1.4.1.1206.4.2.1"
+TIME = ".1.3.6.1.4.1.1206.4.2.6.3"
 PROFILE = {
     "phaseSide", "phaseVariableInitial", "phasePedestrianRecycle", "unitMax2",
     "overlapAcrossRings", "coordCorrectionLimit", "patternPermissiveTime",
-    "patternLeadLag", "preemptChoosesAnew", "coordReference",
-    "timeBaseScheduleMonth", "timeBaseScheduleDay", "timeBaseScheduleDate",
-    "timeBaseScheduleDayPlan", "dayPlanHour", "dayPlanMinute", "dayPlanActionNumber",
-    "timebaseAscPattern",
+    "patternLeadLag", "preemptChoosesAnew", "coordReference", "overlapArrowDelay",
+    "overlapArrowPedestrian", "actionArrowOmit",
 }  # fmt: skip
 #: Objects of which any value leaves the structure of a plan as it is.
 FREE = sorted(
@@ -50,10 +49,26 @@ def read(text: str) -> oids.Reading:
 def alike(one: Plan, other: Plan) -> list[str]:
     """The objects in which two plans differ, without those of the profile."""
     names = [it for it in OBJECTS if it not in PROFILE]
+    one, other = one.wide(3), other.wide(3)
     return [it for it in names if dict(one[it]) != dict(other[it])]
 
 
 # What is printed
+
+
+@pytest.mark.parametrize("version", [2, 3])
+def test_rows_of_all_versions(version: int, examples: Path) -> None:
+    """A walk has all rows that a bench has, whatever the version of the plan's text; what is
+    made of it is of version 3 only where a row beyond version 2 says something."""
+    plan = Plan.read(examples / "quad.json").wide(version)
+    if version == 3:
+        plan["vehicleDetectorDelay"][40] = 25
+    lines = list(oids.lines_of(plan))
+    for column, last in (("2.2.1.6", 64), ("2.7.1.2", 16), ("9.2.1.2", 16), ("6.2.1.4", 8)):
+        rows = [it for it in lines if it.startswith(f"{ROOT}.{column}.")]
+        assert len(rows) == last
+    made = read("\n".join(lines)).plan
+    assert made.version == version and not alike(plan, made)
 
 
 def test_the_objects_of_the_profile() -> None:
@@ -107,6 +122,139 @@ def test_lines_by_hand(examples: Path) -> None:
     assert [it for it in wanted if it not in lines] == []
 
 
+#: Of the plan with a schedule: its entries hold on all days, the last one on the 9th of
+#: December, and its day plans have three events and two.
+SCHEDULE = f"""\
+{ROOT}.5.3.1.2.1 = INTEGER: 1
+{ROOT}.5.3.1.2.3 = INTEGER: 254
+{ROOT}.5.3.1.2.4 = INTEGER: 0
+{TIME}.3.2.1.2.1 = INTEGER: 8190
+{TIME}.3.2.1.2.3 = INTEGER: 4096
+{TIME}.3.2.1.3.2 = INTEGER: 130
+{TIME}.3.2.1.4.1 = Gauge32: 4294967294
+{TIME}.3.2.1.4.3 = Gauge32: 512
+{TIME}.3.2.1.4.32 = Gauge32: 0
+{TIME}.3.2.1.5.2 = INTEGER: 2
+{TIME}.3.5.1.3.1.3 = INTEGER: 19
+{TIME}.3.5.1.3.2.1 = INTEGER: 10
+{TIME}.3.5.1.4.2.1 = INTEGER: 30
+{TIME}.3.5.1.5.1.2 = OID: {ROOT}.5.3.1.1.2
+{TIME}.3.5.1.5.2.2 = OID: {ROOT}.5.3.1.1.3
+{TIME}.3.5.1.5.16.16 = OID: .0.0
+"""
+
+
+def test_lines_of_a_schedule_by_hand(examples: Path) -> None:
+    """Both halves of the days of the month are one number, and an event names its action
+    by the OID of the action's row."""
+    plan = Plan.read(examples / "schedule.json")
+    plan["dayPlanMinute"][2, 1] = 30
+    lines = list(oids.lines_of(plan))
+    assert [it for it in SCHEDULE.splitlines() if it not in lines] == []
+    places = [it.oid for it in walk.lines_of("\n".join(lines))]
+    assert places == sorted(places) and len(set(places)) == len(lines)
+    assert [it.name for it in oids.without_place(plan)][-1] == "patternLeadLag"
+
+
+@pytest.mark.parametrize(
+    ("date", "halves"),
+    [
+        ("Gauge32: 4294967294", {1: 65534, 33: 65535}),
+        ("INTEGER: 4294967294", {1: 65534, 33: 65535}),
+        ("INTEGER: -2", {1: 65534, 33: 65535}),
+        ("INTEGER: -2147483648", {33: 32768}),
+        ("INTEGER: 98306", {1: 32770, 33: 1}),
+        ("Gauge32: 4294967296", {}),
+        ("INTEGER: -2147483649", {}),
+    ],
+)
+def test_days_of_the_month_by_hand(date: str, halves: dict[int, int]) -> None:
+    """32 bits, as an INTEGER of SNMP has them too, whose greatest one is its sign."""
+    reading = read(f"{TIME}.3.2.1.4.1 = {date}\n")
+    assert dict(reading.plan.wide(3)["timeBaseScheduleDate"]) == halves
+    told = [(it.name, it.row, it.why) for it in reading.remarks]
+    lost = ("timeBaseScheduleDate", (1,), "timeBaseScheduleDate has 32 bits")
+    assert told == ([] if halves else [lost])
+
+
+@pytest.mark.parametrize(
+    ("value", "action", "why"),
+    [
+        (f"OID: {ROOT}.5.3.1.1.7", 7, ""),
+        ("OID: iso.3.6.1.4.1.1206.4.2.1.5.3.1.1.32", 32, ""),
+        ("OID: SNMPv2-SMI::enterprises.1206.4.2.1.5.3.1.1.1", 1, ""),
+        ("OID: .0.0", 0, ""),
+        ("OID: ccitt.0", 0, ""),
+        ("OID: SNMPv2-SMI::zeroDotZero", 0, ""),
+        (f"OID: {ROOT}.5.3.1.1.0", 0, ""),
+        (f"OID: {ROOT}.5.3.1.1.33", 0, "dayPlanActionNumber: 33 is not in 0 to 32"),
+        (f"OID: {ROOT}.5.3.1.2.7", 0, "it names no row of timebaseAscActionTable"),
+        (f"OID: {ROOT}.5.3.1.1", 0, "it names no row of timebaseAscActionTable"),
+        ("OID: .2.999", 0, "it names no row of timebaseAscActionTable"),
+        ("OID: .1.3.99999999999", 0, "it is not an OID"),
+        ("OID: .3.3", 0, "it is not an OID"),
+        ("OID: action", 0, "it is not an OID"),
+        ("INTEGER: 3", 0, "it is not an OID"),
+        ('STRING: "3"', 0, "it is not an OID"),
+    ],
+)
+def test_actions_of_events_by_hand(value: str, action: int, why: str) -> None:
+    """The OID of an action's row, or 0.0."""
+    reading = read(f"{TIME}.3.5.1.5.2.16 = {value}\n")
+    assert reading.plan.wide(3)["dayPlanActionNumber"][2, 16] == action
+    told = [it.why.partition(" (")[0] for it in reading.remarks]
+    assert told == [why] * bool(why) and (reading.taken == set()) is bool(why)
+
+
+def test_what_of_a_schedule_has_no_place() -> None:
+    """Rows that a plan does not have, other objects of the time, and flash."""
+    text = f"""\
+{ROOT}.5.1.0 = INTEGER: 0
+{ROOT}.5.1.0 = INTEGER: 65535
+{ROOT}.5.2.0 = INTEGER: 255
+{ROOT}.5.3.1.1.3 = INTEGER: 3
+{ROOT}.5.3.1.2.3 = INTEGER: 255
+{ROOT}.5.3.1.3.3 = INTEGER: 1
+{ROOT}.5.3.1.4.3 = INTEGER: 0
+{ROOT}.5.4.0 = INTEGER: 3
+{TIME}.1.0 = Counter32: 1795417199
+{TIME}.2.0 = INTEGER: 3
+{TIME}.3.4.0 = INTEGER: 24
+{TIME}.3.2.1.1.33 = INTEGER: 33
+{TIME}.3.2.1.4.33 = Gauge32: 0
+{TIME}.3.2.1.2.5 = INTEGER: 65534
+{TIME}.3.5.1.5.16.17 = OID: .0.0
+{TIME}.3.5.1.5.17.1 = OID: {ROOT}.5.3.1.1.3
+{TIME}.3.6.0 = INTEGER: 1
+"""
+    reading = read(text)
+    assert list(lines_of(reading.remarks)) == f"""\
+line 1: timebaseAscPatternSync = INTEGER: 0: a plan has no place for it; as it is, it does nothing
+line 2: timebaseAscPatternSync = INTEGER: 65535: a plan has no place for it
+line 3: maxTimebaseAscActions = INTEGER: 255: it is a size, and no part of a plan
+line 5: timebaseAscPattern.3 = INTEGER: 255: timebaseAscPattern: 255 is not in 0 to 254 (pattern, 254 for free operation, 0 for none)
+line 6: timebaseAscAuxillaryFunction.3 = INTEGER: 1: a plan has no place for it
+line 7: timebaseAscSpecialFunction.3 = INTEGER: 0: a plan has no place for it; as it is, it does nothing
+line 8: timebaseAscActionStatus = INTEGER: 3: it is a status, and no part of a plan
+line 9: globalTime = Counter32: 1795417199: it is a status, and no part of a plan
+line 10: globalDaylightSaving = INTEGER: 3: a plan has no place for it
+line 11: maxDayPlanEvents = INTEGER: 24: it is a size, and no part of a plan
+line 13: timeBaseScheduleDate.33 = Gauge32: 0: a plan has 32 of them; as it is, it does nothing
+line 14: timeBaseScheduleMonth.5 = INTEGER: 65534: timeBaseScheduleMonth: 65534 is not in 0 to 8190 (sum of `2^month` over its months, January 1)
+line 15: dayPlanActionNumberOID.16.17 = OID: .0.0: a plan has 16 x 16 of them; as it is, it does nothing
+line 16: dayPlanActionNumberOID.17.1 = OID: {ROOT}.5.3.1.1.3: a plan has 16 x 16 of them
+line 17: dayPlanStatus = INTEGER: 1: it is a status, and no part of a plan
+""".splitlines()
+    assert reading.taken == {4, 12} and reading.plan == Plan()
+
+
+def test_notes_have_no_place(examples: Path) -> None:
+    """They are printed with the rest of what a walk has no place for."""
+    plan = Plan.read(examples / "two.json").noted({"site": "Main and\nOak"})
+    *_, last = lines_of(oids.without_place(plan))
+    assert last == "notes.site = Main and?Oak: NTCIP 1202 v02 has no object for it"
+
+
 @pytest.mark.parametrize(
     ("name", "bit"),
     [("phaseEnabled", 0), ("phaseNonLock", 5), ("phaseMinRecall", 6),
@@ -148,7 +296,7 @@ phaseMinimumGap.2 = 0: no time reduces a gap there, and here it is the minimum g
 @pytest.mark.parametrize(
     "name",
     ["main_and_oak", "tee", "one_way_pair", "railroad", "right_turns", "two", "quad",
-     "coordination", "no_advice", "late_force_off", "first_plan"],
+     "coordination", "no_advice", "late_force_off", "first_plan", "schedule"],
 )  # fmt: skip
 def test_examples_out_and_in(name: str, examples: Path) -> None:
     """Out and in is the plan, and so are the sides, which no line has."""
@@ -156,6 +304,7 @@ def test_examples_out_and_in(name: str, examples: Path) -> None:
     plan = plan.wide() if plan.version == 1 else plan
     reading = read("\n".join(oids.lines_of(plan)))
     again = reading.plan
+    assert again.version == (3 if plan.has_schedule else 2)
     assert alike(plan, again) == [] and dict(plan["phaseSide"]) == dict(again["phaseSide"])
     assert {it.why for it in reading.remarks} <= {
         "given, by lists of concurrent phases and sequences"
@@ -173,10 +322,10 @@ def made(kinds: Sequence[str], values: Sequence[tuple[str, int, int]]) -> Plan:
     """A plan of phases with these values besides."""
     of = {kind: {at for at, it in enumerate(kinds, 1) if it == kind} for kind in kinds}
     throughs, lefts = (frozenset(of.get(it, ())) for it in ("through", "left"))
-    plan = plan_of(Choice(throughs, lefts))
+    plan = plan_of(Choice(throughs, lefts)).wide(3)
     for name, index, value in values:
         what = OBJECTS[name]
-        plan[name][1 + index % what.count] = value % (what.greatest + 1)
+        plan[name][1 + index % what.counts(plan.version)] = value % (what.greatest + 1)
     return plan
 
 
@@ -214,12 +363,18 @@ PLACES = st.one_of(
         lambda more: (1, 3, 6, 1, *more), st.lists(st.integers(0, 70_000), min_size=1)
     ),
 )
-ANY = st.one_of(st.integers(-(2**31), 2**31 - 1), st.binary(max_size=40))
+ANY = st.one_of(
+    st.integers(-(2**31), 2**31 - 1),
+    st.integers(0, 2**32 - 1).map(forms.Unsigned),
+    st.binary(max_size=40),
+    st.integers(0, 40).map(lambda it: (*ASC, 5, 3, 1, 1, it)),
+    st.lists(st.integers(0, 2**32 - 1), min_size=1, max_size=6).map(lambda it: (1, *it)),
+)
 
 
 @runs(200)
 @given(st.lists(st.tuples(PLACES, ANY), max_size=30))
-def test_nothing_is_dropped(given_lines: list[tuple[objects.Oid, Value]]) -> None:
+def test_nothing_is_dropped(given_lines: list[tuple[forms.Oid, Value]]) -> None:
     """What is read and what is named as without place is all of a walk; and the lines
     of what has no place say it all."""
     text = "\n".join(walk.printed(oid, value) for oid, value in given_lines)
@@ -235,7 +390,9 @@ def test_nothing_is_dropped(given_lines: list[tuple[objects.Oid, Value]]) -> Non
 @example((1, 3, 6), b'a "quote" and \\ and\nanother line')
 @example((1, 3, 6), bytes(range(40)))
 @example((1, 3, 6), b"\t\n")
-def test_a_line_is_read_as_it_is_printed(oid: objects.Oid, value: Value) -> None:
+@example((1, 3, 6), (0, 0))
+@example((1, 3, 6), (2, 999))
+def test_a_line_is_read_as_it_is_printed(oid: forms.Oid, value: Value) -> None:
     """An OID and its value come back, also over several lines."""
     text = walk.printed(oid, value)
     for end in ("\n", "\r\n"):
@@ -243,6 +400,7 @@ def test_a_line_is_read_as_it_is_printed(oid: objects.Oid, value: Value) -> None
             end = "\n"
         found = list(walk.lines_of(text.replace("\n", end) + end + "\n"))
         assert [(it.oid, it.value) for it in found] == [(oid, value)]
+        assert type(found[0].value) is type(value)
 
 
 STREET = f"""\
@@ -368,7 +526,8 @@ def test_other_ways_to_print_an_oid() -> None:
     for begin in ("iso.3.6.1.4.1.", "SNMPv2-SMI::enterprises.", "1.3.6.1.4.1."):
         (line,) = walk.lines_of(f"{begin}1206.4.2.1.1.2.1.4.2 = INTEGER: 10 seconds")
         assert line.oid == (*ASC, 1, 2, 1, 4, 2) and line.value == 10
-    (line,) = walk.lines_of(".1.3 = Timeticks: (5) 0:00:00.05")
+    # (what a walk ends with is no value)
+    (line,) = walk.lines_of(f".1.3 = Timeticks: (5) 0:00:00.05\n.1.3{walk.PAST}\n{walk.END}")
     assert line.value is None and line.text == "Timeticks: (5) 0:00:00.05"
 
 
@@ -471,16 +630,17 @@ def test_remarks_that_follow_one_another() -> None:
     ]
 
 
-def test_what_forms_read_back(examples: Path) -> None:
+@pytest.mark.parametrize("name", ["main_and_oak", "schedule"])
+def test_what_forms_read_back(name: str, examples: Path) -> None:
     """Each value that a plan has asks for the values that it is of, and no others."""
-    plan = Plan.read(examples / "main_and_oak.json")
+    plan = Plan.read(examples / f"{name}.json").wide(3)
     for leaf in objects.plan_leaves().values():
         form = leaf.column.form
         assert form is not None
         sets, lost = form.read(form.written(plan, objects.row_of(leaf)), objects.row_of(leaf))
         assert lost == [] and sets
-        for name, at, number in sets:
-            assert name in form.names and plan[name][at] == number
+        for of, at, number in sets:
+            assert of in form.names and plan[of][at] == number
 
 
 def test_numbers_that_stand_for_nothing() -> None:

@@ -165,7 +165,7 @@ def test_hands_over_a_log() -> None:
     assert rows_of(tape, 3, 2) == [row({2}, {8}, {1}), row((), {8})]
     tape.grasp(0, place("vehicle", 1), None)
     assert rows_of(tape, 4, 1) == [row({1}, {8})]
-    assert tape.hands(0).keys() == {24, 26} and tape.hands(0)[26].at(4)
+    assert tape.hands(0).keys() == {71, 80} and tape.hands(0)[80].at(4)
 
 
 def test_rows_that_were_taken() -> None:

@@ -70,13 +70,13 @@ def test_selection_and_results(plans: pytest.Pytester) -> None:
 def test_faults(plans: pytest.Pytester) -> None:
     """A file that can't be read is an error of collection, a plan that is refused a
     failure: one line each."""
-    (plans.path / "worse.scenario").write_text("plan quad.json\nat 1 V17 on\n")
+    (plans.path / "worse.scenario").write_text("plan quad.json\nat 1 V65 on\n")
     (plans.path / "none.scenario").write_text("plan none.json\nexpect P2 G at 1\n")
     words = ["--continue-on-collection-errors", "worse.scenario", "none.scenario"]
     done = plans.runpytest_inprocess(*words, "-p", "no:cacheprovider")
     done.assert_outcomes(failed=1, errors=1)
     done.stdout.fnmatch_lines([
-        "worse.scenario:2: V17: no input: V1 to V16, B1 to B8 and I1 to I4 are inputs",
+        "worse.scenario:2: V65: no input: V1 to V64, B1 to B16 and I1 to I8 are inputs",
         "none.json: No such file or directory",
     ])  # fmt: skip
 

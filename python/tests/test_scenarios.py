@@ -16,7 +16,7 @@ from hypothesis import strategies as st
 from tsb import Bench, Error, Event, Log, Plan
 from tsb.lines import Display, Lines
 from tsb.panel.run import Run
-from tsb.rows import ALL_OFF, row
+from tsb.rows import ALL_OFF, fields, row
 from tsb.scenario import Scenario, ScenarioFault, play, source_of
 from tsb.scenario.expect import (
     Always,
@@ -71,23 +71,28 @@ FAULTS = {
     "log a\nlog b c": "a.scenario:2: b c: there is such a line before",
     "until 5\nuntil 6": "a.scenario:2: 6: there is such a line before",
     "include none": "a.scenario:1: none: No such file or directory",
-    "at 5 V17 on": "a.scenario:1: V17: no input: V1 to V16, B1 to B8 and I1 to I4 are"
+    "at 5 V65 on": "a.scenario:1: V65: no input: V1 to V64, B1 to B16 and I1 to I8 are"
     " inputs",
-    "at 5 V0 on": "a.scenario:1: V0: no input: V1 to V16, B1 to B8 and I1 to I4 are"
+    "at 5 V0 on": "a.scenario:1: V0: no input: V1 to V64, B1 to B16 and I1 to I8 are"
     " inputs",
-    "at 5 P2 on": "a.scenario:1: P2: no input: V1 to V16, B1 to B8 and I1 to I4 are"
+    "at 5 P2 on": "a.scenario:1: P2: no input: V1 to V64, B1 to B16 and I1 to I8 are"
     " inputs",
     "at 5 V4": "a.scenario:1: V4: the line ends here: give on or off",
     "at 5 V4 on off": "a.scenario:1: off: no word belongs here",
     "at 5": "a.scenario:1: 5: the line ends here: give inputs with on or off, or a"
     " command",
-    "at 5 step 3": "a.scenario:1: step: no input and no command: V1 to V16, B1 to B8 and"
-    " I1 to I4 are inputs",
+    "at 5 step 3": "a.scenario:1: step: no input and no command: V1 to V64, B1 to B16 and"
+    " I1 to I8 are inputs",
     "at soon V4 on": "a.scenario:1: soon: no line before has `let soon ..`",
-    "at 5+ V4 on": "a.scenario:1: 5+: no time: give a tick, as 120, or a sum as"
-    " 1+phaseMinimumGreen.2",
-    "at 12345678901 V4 on": "a.scenario:1: 12345678901: no time: give a tick, as 120, or"
-    " a sum as 1+phaseMinimumGreen.2",
+    "at 5+ V4 on": "a.scenario:1: 5+: no time: give a tick, as 120, a sum as"
+    " 1+phaseMinimumGreen.2, or 7:42 of the clock",
+    "at 12345678901 V4 on": "a.scenario:1: 12345678901: no time: give a tick, as 120,"
+    " a sum as 1+phaseMinimumGreen.2, or 7:42 of the clock",
+    "at 7:4 V4 on": "a.scenario:1: 7:4: no time: give a tick, as 120, a sum as"
+    " 1+phaseMinimumGreen.2, or 7:42 of the clock",
+    "at 2026-02-30T7:42 V4 on": "a.scenario:1: 2026-02-30T7:42: '2026-02-30T7:42': day is"
+    " out of range for month: give a time as 7:42 or 7:42:10.5, with a day as 2026-11-22"
+    " 7:42",
     "at 1+phaseWlak.2 V4 on": "a.scenario:1: phaseWlak.2: version 3 has no object"
     " phaseWlak: did you mean phaseWalk?",
     "at phaseWalk.17 V4 on": "a.scenario:1: phaseWalk.17: phaseWalk.17: its indices are"
@@ -108,22 +113,22 @@ FAULTS = {
     " phaseWalk.2",
     "set phaseWalk.** 1": "a.scenario:1: phaseWalk.**: a value of the plan is"
     " OBJECT.INDEX, as phaseWalk.2",
-    "expect P17 G": "a.scenario:1: P17: no head: P1 to P16, W1 to W16 and O1 to O4 are"
+    "expect P17 G": "a.scenario:1: P17: no head: P1 to P16, W1 to W16 and O1 to O16 are"
     " heads",
-    "expect P02 G": "a.scenario:1: P02: no head: P1 to P16, W1 to W16 and O1 to O4 are"
+    "expect P02 G": "a.scenario:1: P02: no head: P1 to P16, W1 to W16 and O1 to O16 are"
     " heads",
-    "expect W17 W": "a.scenario:1: W17: no head: P1 to P16, W1 to W16 and O1 to O4 are"
+    "expect W17 W": "a.scenario:1: W17: no head: P1 to P16, W1 to W16 and O1 to O16 are"
     " heads",
-    "expect O5 G": "a.scenario:1: O5: no head: P1 to P16, W1 to W16 and O1 to O4 are"
+    "expect O17 G": "a.scenario:1: O17: no head: P1 to P16, W1 to W16 and O1 to O16 are"
     " heads",
-    "expect X1 G": "a.scenario:1: X1: no head: P1 to P16, W1 to W16 and O1 to O4 are"
+    "expect X1 G": "a.scenario:1: X1: no head: P1 to P16, W1 to W16 and O1 to O16 are"
     " heads",
     "expect event 5 65536": "a.scenario:1: 65536: give its parameter of 0 to 65535",
-    "expect V4 on": "a.scenario:1: V4: no head: P1 to P16, W1 to W16 and O1 to O4 are"
+    "expect V4 on": "a.scenario:1: V4: no head: P1 to P16, W1 to W16 and O1 to O16 are"
     " heads",
     "expect P2 W at 5": "a.scenario:1: W: P2 shows one of GYRF-",
     "expect W2 not G at 5": "a.scenario:1: G: W2 shows one of WCD-",
-    "expect preempt 5 at 5": "a.scenario:1: 5: preempt shows one of 01234",
+    "expect preempt 9 at 5": "a.scenario:1: 9: preempt shows one of 012345678",
     "expect P2": "a.scenario:1: P2: the line ends here: give what P2 shows: one of GYRF-",
     "expect P2 G from 5": "a.scenario:1: 5: the line ends here: give to",
     "expect P2 G until 5": "a.scenario:1: until: give from here",
@@ -134,7 +139,7 @@ FAULTS = {
     "expect event x 4": "a.scenario:1: x: give a code of an event",
     "expect event 256 4": "a.scenario:1: 256: give a code of an event of 0 to 255",
     "expect event 12345678901 4": "a.scenario:1: 12345678901: give a code of an event",
-    "expect no walk 4": "a.scenario:1: no: no head: P1 to P16, W1 to W16 and O1 to O4 are"
+    "expect no walk 4": "a.scenario:1: no: no head: P1 to P16, W1 to W16 and O1 to O16 are"
     " heads",
     "expect wait 17 at most 5": "a.scenario:1: 17: give a phase of 1 to 16",
     "expect wait 4 over 5": "a.scenario:1: over: give at here",
@@ -292,6 +297,69 @@ def test_values_count_by_their_units(examples: Path) -> None:
         "6000000": 6_000_000,
     }.items():
         assert Times(plan, {}).of(Time.of(Word(text, PLACE), {})) == ticks, text
+
+
+#: A car at phase 4 from the tick on with which 7:00:01 comes: phase 4 is green from the
+#: tick after its minimum of 5 s, yellow and red clearance of 4 s. A pattern comes later.
+CLOCKED = """\
+plan quad.json
+at 0 clock 2026-11-22 07:00:00
+let car 7:00:01
+at car V4 on
+at 07:00:11.5+5 pattern 1
+expect P4 G by 2026-11-22T7:00:09.1
+expect P4 R from 7:00:00.1 to 7:00:09
+expect P4 G at car+phaseMinimumGreen.2+31
+until 7:00:20
+"""
+
+
+def test_times_of_the_clock(write: Write) -> None:
+    """A time is the tick that the bench gives it by the clock set at tick 0. A clock that
+    is set later gives none."""
+    scenario = Scenario.read(write(CLOCKED))
+    assert played(write(CLOCKED)) == []
+    source = source_of(scenario, 100)
+    assert source.end == 200 and [it for it, _ in source.given] == [0, 120]
+    later = f"at 50 clock 2026-11-22 12:00:00\n{CLOCKED}"
+    assert source_of(Scenario.read(write(later)), 100).end == 200
+    found = played(write(CLOCKED.replace("to 7:00:09\n", "to 7:00:09.1\n")))
+    assert found == [(7, 91, "P4 R from 1 to 90, G at 91")]
+
+
+@pytest.mark.parametrize(
+    ("lines", "said"),
+    [
+        ("expect P2 G by 7:42", "1: 7:42: give a line `at 0 clock 2026-11-22 07:00:00`"),
+        ("at 1 clock 2026-11-22 07:00:00\nexpect P2 G by 7:42",
+         "2: 7:42: give a line `at 0 clock 2026-11-22 07:00:00`"),
+        ("at 0 clock 2026-11-22 07:42:00\nexpect P2 G by 7:42",
+         "2: 7:42: it is 0: a tick is 1 to 6000000"),
+        ("at 0 clock 2026-11-22 07:42:00\nexpect P2 G by 2026-12-22T7:42",
+         "2: 2026-12-22T7:42: no tick is so late"),
+        ("at 0 clock today\nexpect P2 G by 7:42",
+         "1: clock today: bad command: "),
+    ],
+)  # fmt: skip
+def test_times_without_their_clock(lines: str, said: str, write: Write) -> None:
+    """The word is named, and what it lacks."""
+    path = write(f"{lines}\nplan quad.json\n")
+    with pytest.raises(ScenarioFault) as fault:
+        play(Scenario.read(path))
+    assert str(fault.value).startswith(f"a.scenario:{said}"), str(fault.value)
+
+
+def test_a_schedule_in_a_scenario(examples: Path, write: Write) -> None:
+    """At 7:00 of a Monday pattern 1 is selected."""
+    path = write("").with_name("quad.json")
+    path.write_bytes((examples / "schedule.json").read_bytes())
+    text = """\
+plan quad.json
+at 0 clock 2026-11-23 06:59:30
+expect no event 131 1 from 1 to 6:59:59.9
+expect event 131 1 at 7:00
+"""
+    assert played(write(text)) == []
 
 
 # What is met
@@ -496,7 +564,7 @@ def test_many_lines_on_one_run(
 
 TURNS = st.dictionaries(
     st.integers(1, 40),
-    st.dictionaries(st.sampled_from([0, 3, 15, 17, 24, 26, 29]), st.sampled_from("01")),
+    st.dictionaries(st.sampled_from([0, 3, 15, 16, 63, 64, 72, 80, 87]), st.sampled_from("01")),
     max_size=8,
 )
 BASES = st.dictionaries(
@@ -514,14 +582,14 @@ def test_rows_have_what_lines_turn(
     log = Log.of(sorted(base.items()))
     found = Log.of(_rows(log, turned))
     for tick in range(1, 45):
-        for place in range(30):
+        for place in range(88):
             given = [
                 turned[it][place]
                 for it in sorted(turned)
                 if it <= tick and place in turned[it]
             ]
-            wanted = given[-1] if given else log.at(tick)[place]
-            assert found.at(tick)[place] == wanted
+            wanted = given[-1] if given else "".join(fields(log.at(tick)))[place]
+            assert "".join(fields(found.at(tick)))[place] == wanted
 
 
 def test_an_input_acts_in_its_tick_and_a_command_in_the_next(write: Write) -> None:
@@ -727,7 +795,7 @@ def test_statuses(write: Write, capsys: pytest.CaptureFixture[str]) -> None:
     """All files run, whatever one of them has."""
     good, bad = Path("good.scenario"), Path("bad.scenario")
     good.write_text(f"{CAR}expect P4 G by 91\n")
-    bad.write_text("at 5 V17 on\n")
+    bad.write_text("at 5 V65 on\n")
     missed = write(f"{CAR}needs phaseWalk.4\nexpect P4 G by 91\n")
     assert main([str(good), str(missed)]) == 0
     assert capsys.readouterr().out == (
@@ -741,7 +809,7 @@ def test_statuses(write: Write, capsys: pytest.CaptureFixture[str]) -> None:
     )
     told = capsys.readouterr()
     assert told.err == (
-        "bad.scenario:1: V17: no input: V1 to V16, B1 to B8 and I1 to I4 are inputs\n"
+        "bad.scenario:1: V65: no input: V1 to V64, B1 to B16 and I1 to I8 are inputs\n"
         "none: No such file or directory\nnone: No such file or directory\n"
     )
     assert told.out.endswith(

@@ -17,8 +17,9 @@ from pyasn1.codec.ber import encoder
 from pysnmp.proto import api
 from tsb import Bench, Error, Plan
 from tsb.__main__ import main
-from tsb.exchange import mib, oids, pull, snmp
+from tsb.exchange import mib, oids, pull, snmp, walk
 from tsb.exchange.agent import (
+    CLOCK,
     PATTERN_CONTROL,
     PREEMPT_CONTROL,
     TRANSACTION,
@@ -28,10 +29,12 @@ from tsb.exchange.agent import (
     Fault,
     Refusal,
 )
+from tsb.exchange.forms import Value
 from tsb.exchange.messages import MOST, V1, V2C, Communities, answer, reply, request
-from tsb.exchange.objects import ASC
+from tsb.exchange.objects import ASC, TIME
 
 ROOT = ".1.3.6.1.4.1.1206.4.2.1"
+TIMES = ".1.3.6.1.4.1.1206.4.2.6.3"
 GREEN = (*ASC, 1, 2, 1, 4)
 YELLOW = (*ASC, 1, 2, 1, 8)
 KNOWN = Communities(b"reader", b"writer")
@@ -79,6 +82,13 @@ def tool(name: str, at: str, *words: str, version: str = "1") -> str:
     return "".join(it for it in lines if not it.startswith("Created directory: "))
 
 
+def walked_by(name: str, at: str, version: str = "1") -> str:
+    """A walk of all that a plan has: of actuated controllers, and of their time."""
+    texts = (tool(name, at, "-On", it, version=version) for it in (ROOT, TIMES))
+    lines = "".join(texts).splitlines(keepends=True)
+    return "".join(it for it in lines if it[:-1] != walk.END and walk.PAST not in it)
+
+
 def test_tools_on_an_agent(examples: Path, tmp_path: Path, names: Path) -> None:
     """A walk, values by name, values set, refusals, and a transaction."""
     with served(examples / "main_and_oak.json", tmp_path, "--speed", "0") as at:
@@ -90,7 +100,7 @@ def test_tools_on_an_agent(examples: Path, tmp_path: Path, names: Path) -> None:
 def _walked(at: str, examples: Path, folder: Path) -> None:
     """A walk has the very lines of `oids`, and is read back as the plan."""
     plan = Plan.read(examples / "main_and_oak.json")
-    text = tool("snmpwalk", at, "-On", ROOT)
+    text = walked_by("snmpwalk", at)
     walked = text.splitlines()
     lines = list(oids.lines_of(plan))
     assert [it for it in walked if it in set(lines)] == lines
@@ -98,7 +108,7 @@ def _walked(at: str, examples: Path, folder: Path) -> None:
     out = folder / "again.json"
     assert main(["plan", str(folder / "walk.txt"), "--out", str(out)]) == 0
     assert list(oids.lines_of(Plan.read(out))) == lines
-    assert tool("snmpbulkwalk", at, "-On", ROOT, version="2c") == text
+    assert walked_by("snmpbulkwalk", at, version="2c") == text
 
 
 def _named(at: str, names: Path) -> None:
@@ -192,7 +202,7 @@ def test_pull(
             assert dict(Plan.read(out)["phaseSide"]) == dict(plan["phaseSide"])
             assert told.out.splitlines()[-1] == "tsb check: plan ok"
             assert "reader" not in told.out + told.err
-            assert walked.read_text() == tool("snmpwalk", at, "-On", ROOT, version="2c")
+            assert walked.read_text() == walked_by("snmpwalk", at, version="2c")
         (tmp_path / "wrong").write_text("nobody\n")
         with pytest.MonkeyPatch.context() as patch:
             patch.setattr(pull, "TIMEOUT", 0.1)
@@ -202,6 +212,84 @@ def test_pull(
         said = "no answer: is the community right, and the version?"
         assert (told.out, told.err) == ("", f"{host}:{port}: {said}\n")
     assert not (tmp_path / "no.json").exists()
+
+
+def test_a_schedule_by_tools(
+    examples: Path, tmp_path: Path, names: Path, capsys: pytest.CaptureFixture[str]
+) -> None:
+    """What a schedule is and what it runs: by names, in a transaction, and by a pull. Two
+    seconds before 7:00 of a Monday its third action is in force, of the first day plan."""
+    by = ["-M", str(names), "-m", mib.NAME]
+    name = f"{mib.NAME}::"
+
+    def got(*what: str) -> list[str]:
+        told = tool("snmpget", at, *by, " ".join(name + it for it in what))
+        return [it.removeprefix(name) for it in told.splitlines()]
+
+    def put(*what: str, version: str = "1") -> str:
+        return tool("snmpset", at, *by, " ".join(name + it for it in what), version=version)
+
+    action, date = "dayPlanActionNumberOID", "timeBaseScheduleDate"
+    row = f"{ROOT}.5.3.1.1"
+    begin = ("--speed", "0", "--from", "2026-11-23 6:59:58")
+    with served(examples / "schedule.json", tmp_path, *begin) as at:
+        assert got(f"{date}.1", f"{date}.3", f"{action}.1.3", f"{action}.1.4") == [
+            f"{date}.1 = Gauge32: 4294967294", f"{date}.3 = Gauge32: 512",
+            f"{action}.1.3 = OID: {name}timebaseAscActionNumber.3",
+            f"{action}.1.4 = OID: ccitt.0",
+        ]  # fmt: skip
+        now = ("globalTime.0", "timebaseAscActionStatus.0", "dayPlanStatus.0")
+        assert got(*now, "timeBaseScheduleTableStatus.0") == [
+            "globalTime.0 = Gauge32: 1795417198", "timebaseAscActionStatus.0 = INTEGER: 3",
+            "dayPlanStatus.0 = INTEGER: 1", "timeBaseScheduleTableStatus.0 = INTEGER: 1",
+        ]  # fmt: skip
+        assert put("globalTime.0 u 1795417200") == f"{name}globalTime.0 = Gauge32: 1795417200\n"
+        assert got(*now[:2])[1] == "timebaseAscActionStatus.0 = INTEGER: 1"
+        for what, one, two in (
+            (f"{action}.1.4 o .1.3", "badValue", "wrongValue"),
+            (f"{action}.1.4 o {row}.33", "badValue", "wrongValue"),
+            (f"{action}.1.4 o {row}.4", "genError", "genError"),
+            (f"{action}.1.17 o {row}.1", "noSuchName", "notWritable"),
+            (f"{date}.33 u 8", "noSuchName", "notWritable"),
+            ("timeBaseScheduleMonth.33 i 8", "noSuchName", "notWritable"),
+            ("timeBaseScheduleDay.1 i 256", "badValue", "wrongValue"),
+            ("timebaseAscPattern.1 i 255", "badValue", "wrongValue"),
+            ("timebaseAscPattern.1 i 0", "genError", "genError"),
+            ("globalTime.0 u 5", "badValue", "wrongValue"),
+            ("dayPlanStatus.0 i 1", "noSuchName", "notWritable"),
+        ):
+            said = [put(what, version=it) for it in ("1", "2c")]
+            assert [one in said[0], two in said[1]] == [True, True], (what, said)
+        # (with the MIB file snmpset does not send this)
+        assert "badValue" in tool("snmpset", at, f"{TIMES}.3.5.1.5.1.4 i 3")
+        put("dbCreateTransaction.0 i 2")
+        put(f"{action}.1.4 o {row}.2", "dayPlanHour.1.4 i 22", f"{date}.3 u 2147483650")
+        assert got(f"{action}.1.4")[0].endswith("ccitt.0")
+        put("dbCreateTransaction.0 i 3")
+        assert got("dbVerifyStatus.0")[0].endswith("doneWithNoError(3)")
+        put("dbCreateTransaction.0 i 1")
+        assert got(f"{action}.1.4", "dayPlanHour.1.4", f"{date}.3") == [
+            f"{action}.1.4 = OID: {name}timebaseAscActionNumber.2",
+            "dayPlanHour.1.4 = INTEGER: 22", f"{date}.3 = Gauge32: 2147483650",
+        ]  # fmt: skip
+        put(f"{date}.3 i -2147483646")
+        assert got(f"{date}.3") == [f"{date}.3 = Gauge32: 2147483650"]
+        (tmp_path / "community").write_text("reader\n")
+        host, port = at.split(":")
+        words = ["--port", port, "--community", str(tmp_path / "community")]
+        out = tmp_path / "again.json"
+        assert main(["pull", host, "--out", str(out), *words]) == 0
+    told = capsys.readouterr().out.splitlines()
+    assert "globalTime = Gauge32: 1795417200: it is a status, and no part of a plan" in [
+        it.partition(": ")[2] for it in told
+    ]
+    plan = Plan.read(examples / "schedule.json")
+    assert [str(it) for it in plan.diff(Plan.read(out))][1:] == [
+        "timeBaseScheduleDate.3 (half 1, entry 3): 512 -> 2",
+        "timeBaseScheduleDate.35 (half 2, entry 3): 0 -> 32768",
+        "dayPlanHour.4 (day plan 1, event 4): 0 -> 22",
+        "dayPlanActionNumber.4 (day plan 1, event 4): 0 -> 2",
+    ]
 
 
 def test_nobody_is_there(
@@ -265,6 +353,42 @@ def test_status_groups(agent: Agent) -> None:
     assert agent.set([(PATTERN_CONTROL, 254), ((*PREEMPT_CONTROL, 1), 0)]) is None
     agent.step(1)
     assert agent.get((*ASC, 4, 10, 0)) == 254 and agent.get((*PREEMPT_CONTROL, 1)) == 0
+
+
+def test_what_a_schedule_runs(examples: Path) -> None:
+    """Nothing without a clock. With one the action in force selects its pattern in the
+    tick with which its minute begins; on the 9th of December, a Wednesday, the third entry holds. A
+    clock that was set is taken back with what else of its request is refused."""
+    rows = [(*ASC, 5, 4, 0), (*TIME, 3, 6, 0), (*TIME, 3, 7, 0), (*ASC, 4, 10, 0)]
+    eve = 1796860799  # 2026-12-09 23:59:59
+    with Bench(examples / "schedule.json", events=False) as bench:
+        agent = Agent(bench)
+
+        def now() -> list[Value | None]:
+            return [agent.get(it) for it in rows]
+
+        agent.step(1)
+        assert agent.get(CLOCK) == 0 and now() == [0, 0, 0, 254]
+        assert agent.set([(CLOCK, eve - 86400 + 25_200)]) is None  # 6:59:59 of that day
+        agent.step(1)
+        assert agent.get(CLOCK) == eve - 86400 + 25_200 and now() == [3, 2, 3, 254]
+        assert agent.set([(CLOCK, eve - 86400), ((*GREEN, 2), 300)]) == Refusal(
+            Fault.BAD_VALUE, 2
+        )
+        assert agent.get(CLOCK) == eve - 86400 + 25_200
+        assert agent.set([(CLOCK, eve)]) is None
+        agent.step(10)
+        assert now() == [3, 1, 1, 254]  # midnight: Thursday
+        assert agent.set([(CLOCK, eve + 25_200)]) is None
+        agent.step(9)
+        assert now() == [3, 1, 1, 254]
+        agent.step(1)
+        assert now() == [1, 1, 1, 1] and agent.get(CLOCK) == eve + 25_201
+        none: list[Value] = [0, 946_684_799, 4_102_444_800, -1, 1 << 32, b"", (1, 3)]
+        for bad in none:
+            assert agent.set([(CLOCK, bad)]) == Refusal(Fault.BAD_VALUE, 1)
+        for fine in (946_684_800, 4_102_444_799):  # from 2000 to the end of 2099
+            assert agent.set([(CLOCK, fine)]) is None and agent.get(CLOCK) == fine
 
 
 @pytest.mark.parametrize(
@@ -405,7 +529,8 @@ def test_bulk_requests(agent: Agent) -> None:
         (*GREEN, 3), (*YELLOW, 6), (*GREEN, 4), (*YELLOW, 7),
     ]  # fmt: skip
     assert len(asked(0, 10_000, first)) == MOST
-    assert asked(0, 10, VERIFY_ERROR) == []
+    last = (*TIME, 3, 7, 0)
+    assert asked(0, 10, (*TIME, 3, 6, 0)) == [last] and asked(0, 10, last) == []
     assert asked(5, 10, first) == [(*GREEN, 3)]
     assert asked(0, 0, first) == []
 
@@ -441,6 +566,22 @@ def test_bad_words(words: list[str], examples: Path) -> None:
         capture_output=True, text=True,
     )  # fmt: skip
     assert done.returncode == 2 and words[0] in done.stderr
+
+
+def test_a_schedule_without_a_clock(examples: Path) -> None:
+    """A line says that it does not act; and a time that is none is named."""
+    words = [sys.executable, "-m", "tsb", "snmp", "schedule.json", "--speed", "0"]
+    with subprocess.Popen(
+        words, cwd=examples, text=True, stdout=subprocess.PIPE, stderr=subprocess.PIPE
+    ) as process:
+        assert process.stdout is not None
+        assert "SNMP at" in process.stdout.readline()
+        process.send_signal(signal.SIGINT)
+        assert process.communicate(timeout=60)[1] == f"schedule.json: {snmp.NO_CLOCK}\n"
+    done = subprocess.run(
+        [*words, "--from", "7:00"], cwd=examples, capture_output=True, text=True
+    )
+    assert done.returncode == 1 and done.stderr.startswith("7:00: a clock is set to a day")
 
 
 def test_plans_that_are_refused(examples: Path) -> None:

@@ -235,6 +235,21 @@ def test_bounds() -> None:
             plan_of(f"{text}Phases,,,1\nphaseWalk,,,{'9' * long}\n")
 
 
+def test_the_sizes_of_versions(examples: Path) -> None:
+    """A sheet has the columns of its version, and is read by them."""
+    beyond = {"vehicleDetectorDelay": 64, "pedestrianDetectorCallPhase": 16, "overlapType": 16, "preemptDelay": 8}
+    plan = Plan.read(examples / "quad.json").wide(3)
+    for name, index in beyond.items():
+        plan[name][index] = 1
+    text = text_of(plan)
+    assert plan_of(text) == plan and plan.wide().version == 3
+    for name, index in beyond.items():
+        plan[name][index] = 0
+    assert plan.wide().version == 2
+    with pytest.raises(tsb.Error, match="17: no column of 1 to 16"):
+        plan_of(text.replace("version,3", "version,2"))
+
+
 def test_columns_have_letters() -> None:
     assert [column_of(it) for it in (0, 25, 26, 51, 52, 701, 702)] == [
         "A", "Z", "AA", "AZ", "BA", "ZZ", "AAA"

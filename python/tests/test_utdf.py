@@ -336,29 +336,43 @@ def test_a_file_that_runs_free() -> None:
     assert not dict(reading.plan["patternCycleTime"])
 
 
-def test_more_movements_than_detectors() -> None:
-    """The sixteenth has its extension. The next is named, as is one whose phase no
-    plan has: neither is said to be given."""
-    names = ["M0", *(f"M{it}" for it in range(1, 18))]
+def lanes_of(count: int) -> str:
+    """A file of a phase whose movements have detectors, and one of a phase that no plan has."""
+    names = [f"M{it}" for it in range(count + 1)]
     lanes = "".join(
-        f"{row},1,{','.join([first, *[value] * 17])}\n"
+        f"{row},1,{','.join([first, *[value] * count])}\n"
         for row, first, value in (
             ("DetectPhase1", "99", "1"), ("numDetects", "1", "2"), ("DetectExtend1", "1", "1.5")
         )
     )  # fmt: skip
     phases = "[Phases]\nRECORDNAME,INTID,D1\nBRP,1,111\n"
-    head = f"[Lanes]\nRECORDNAME,INTID,{','.join(names)}\n"
-    reading = utdf.plan_of(f"{phases}{head}{lanes}", None)
-    assert dict(reading.plan["vehicleDetectorExtend"]) == dict.fromkeys(range(1, 17), 15)
+    return f"{phases}[Lanes]\nRECORDNAME,INTID,{','.join(names)}\n{lanes}"
+
+
+def test_more_movements_than_detectors() -> None:
+    """The last detector has its extension. The next is named, as is one whose phase no
+    plan has: neither is said to be given."""
+    reading = utdf.plan_of(lanes_of(65), None)
+    extend = dict(reading.plan["vehicleDetectorExtend"])
+    assert extend == dict.fromkeys(range(1, 65), 15)
     none = "it is of no detector with a phase"
     assert list(lines_of(reading.remarks)) == [
         "line 6: DetectPhase1 M0 = 99: vehicleDetectorCallPhase: 99 is not in 0 to 16 (phase, 0 for none)",
-        "line 6: DetectPhase1 M17 = 1: vehicleDetectorCallPhase.17: its indices are 1 to 16",
-        f"line 6: DetectPhase1 = M0 99, M17 1: {none}",
-        f"line 7: numDetects = M0 1, M17 2: {none}",
-        f"line 8: DetectExtend1 = M0 1, M17 1.5: {none}",
-        *(f"vehicleDetectorCallPhase.{it} = 1: given, for M{it}" for it in range(1, 17)),
+        "line 6: DetectPhase1 M65 = 1: vehicleDetectorCallPhase.65: its indices are 1 to 64",
+        f"line 6: DetectPhase1 = M0 99, M65 1: {none}",
+        f"line 7: numDetects = M0 1, M65 2: {none}",
+        f"line 8: DetectExtend1 = M0 1, M65 1.5: {none}",
+        *(f"vehicleDetectorCallPhase.{it} = 1: given, for M{it}" for it in range(1, 65)),
     ]
+
+
+@pytest.mark.parametrize(("count", "version"), [(0, 2), (16, 2), (17, 3), (64, 3)])
+def test_the_version_that_has_the_detectors(count: int, version: int) -> None:
+    """A plan is of version 3 only where it has a detector that version 2 has not."""
+    plan = utdf.plan_of(lanes_of(count), None).plan
+    assert plan.version == version
+    assert len(plan["vehicleDetectorCallPhase"]) == count
+    assert Plan.of_text(plan.text) == plan
 
 
 def pattern_of(*coordinated: int) -> Plan:

@@ -1,15 +1,18 @@
 """Finds the moment of an input log from which a preempt waits longest for its green.
 
 Each moment is tried: the bench goes there, switches the preempt on, lets time pass
-until all phases of its first stage are green, and takes all of it back. Beside it comes
-what a worksheet adds up of the plan's values, and the bound that is proved of the bench.
-docs/use/FIELD.md has an example.
+until all phases of its first stage are green, and takes all of it back. The rows of a
+worksheet are read off the heads of the tries that take longest, and beside them comes
+the bound that is proved of the bench. docs/use/FIELD.md has an example.
 """
 
 import argparse
-from collections.abc import Iterator, Sequence
-from dataclasses import dataclass
+from collections import Counter
+from collections.abc import Iterator, Mapping, Sequence
+from dataclasses import dataclass, field
+from itertools import pairwise
 from pathlib import Path
+from typing import NamedTuple
 
 from tsb.bench import Bench
 from tsb.errors import Error, LogFault, PlanFault
@@ -22,23 +25,67 @@ from tsb.rows import PREEMPTS, Log
 from tsb.worksheet import Entry
 
 PROGRAM = called("preempt")
+ANEW = "preemptChoosesAnew, docs/use/MANUAL.md"
 PIECE = 100  # ticks that pass between two looks at the heads
 WITHIN = 600  # seconds in which a green has to come, without --within
+
+
+#: What a phase that has to end shows from the begin of service on, in this order.
+PARTS = ("before it", "walk", "clearance", "green", "yellow", "red")
+VEHICLE, PEDESTRIAN = "conflicting vehicle", "conflicting pedestrian"
+
+
+class Conflict(NamedTuple):
+    """The phase whose yellow ended last before the green, and for how many ticks it
+    showed what. They begin with the service, and end with the green."""
+
+    phase: int
+    parts: Mapping[str, int]
+
+    @property
+    def total(self) -> int:
+        """All of it."""
+        return sum(self.parts.values())
+
+    @property
+    def row(self) -> str:
+        """The row of a worksheet that it is of."""
+        return PEDESTRIAN if self.parts.keys() & {"walk", "clearance"} else VEHICLE
+
+    def __str__(self) -> str:
+        known = [it for it in PARTS if it in self.parts]
+        said = ", ".join(f"{it} {_seconds(self.parts[it])}" for it in known)
+        return f"phase {self.phase}: {said}"
 
 
 @dataclass(frozen=True)
 class Tries:
     """What all tries found: how many ticks each moment waited, None for longer than
-    was asked, and the moments at which a preempt was in service already."""
+    was asked; the moments at which a preempt was in service already; and of each row
+    the longest conflict with its moment."""
 
     waits: dict[int, int | None]
     in_service: list[int]
+    longest: dict[str, tuple[int, Conflict]] = field(default_factory=dict)
 
     @property
     def worst(self) -> tuple[int, int] | None:
         """The longest wait and the first moment that has it."""
         found = [(-wait, at) for at, wait in self.waits.items() if wait is not None]
         return None if not found else (-min(found)[0], min(found)[1])
+
+    @property
+    def totals(self) -> list[int]:
+        """The longest conflict of each row."""
+        return [it.total for _, it in self.longest.values()]
+
+    def take(self, at: int, conflict: Conflict | None) -> None:
+        """Takes the conflict of a moment, which is before those that were taken."""
+        if conflict is None:
+            return
+        known = self.longest.get(conflict.row)
+        if known is None or conflict.total >= known[1].total:
+            self.longest[conflict.row] = at, conflict
 
 
 def first_stage(plan: Plan, number: int) -> tuple[str, frozenset[int]]:
@@ -50,17 +97,19 @@ def first_stage(plan: Plan, number: int) -> tuple[str, frozenset[int]]:
     raise Error(f"preempt {number} has no track phases and no dwell phases")
 
 
-def wait(
+def shown(
     bench: Bench, number: int, phases: frozenset[int], within: int
-) -> int | None:
-    """The ticks from the next one on until the preempt has all these phases green, with
-    its switch on from now on; None where that takes longer."""
-    begun = bench.now
+) -> dict[int, Display] | None:
+    """What the heads show with the preempt's switch on from now on, by tick: where they
+    or the service change, and where the preempt has all these phases green, which is the
+    last. None where that takes longer."""
+    begun, found = bench.now, dict[int, Display]()
     bench.preempt(number)
     while bench.now < begun + within:
         for it in bench.changes(min(PIECE, begun + within - bench.now)):
+            found[it.tick] = it
             if _is_green(it, number, phases):
-                return it.tick - begun - 1
+                return found
     return None
 
 
@@ -78,95 +127,78 @@ def tries(
     for at in progress(range(last, 0, -1), "moments"):
         if bench.seek(at).preempt:
             found.in_service.append(at)
-        else:
-            found.waits[at] = wait(bench, number, phases, within)
+            continue
+        displays = shown(bench, number, phases, within)
+        found.waits[at] = None if displays is None else max(displays) - at - 1
+        if displays is not None:
+            found.take(at, conflict_of(displays, number, phases))
     return found
 
 
-@dataclass(frozen=True)
-class Sum:
-    """What a worksheet adds up for a phase that has to end, in tenths of a second."""
-
-    phase: int
-    parts: tuple[tuple[str, int], ...]
-
-    @property
-    def total(self) -> int:
-        """The sum."""
-        return sum(tenths for _, tenths in self.parts)
-
-    def __str__(self) -> str:
-        parts = ", ".join(f"{name} {_seconds(it)}" for name, it in self.parts)
-        return f"phase {self.phase}: {parts}"
-
-
-def vehicle(plan: Plan, number: int, phase: int) -> Sum:
-    """The least green of a phase with a preempt, its yellow and its red clearance."""
-    least = min(plan["phaseMinimumGreen"][phase], plan["preemptMinimumGreen"][number])
-    return Sum(phase, (("green", 10 * least), *_clearance(plan, phase)))
+def conflict_of(
+    displays: Mapping[int, Display], number: int, phases: frozenset[int]
+) -> Conflict | None:
+    """The conflict of a try; None where no phase had to end. Where several yellows ended
+    together it is the first one that showed a walk or its clearance, if any."""
+    served = {tick: it for tick, it in displays.items() if it.preempt == number}
+    last: dict[int, int] = {}
+    for tick, it in served.items():
+        for phase, letter in enumerate(it.vehicles, 1):
+            if letter in "GY" and phase not in phases:
+                last[phase] = tick
+    ends = sorted(it for it in last if last[it] == max(last.values()))
+    found = [_conflict(served, it) for it in ends]
+    return next((it for it in found if it.row == PEDESTRIAN), found[0] if found else None)
 
 
-def pedestrian(plan: Plan, number: int, phase: int) -> Sum:
-    """The least walk and pedestrian clearance, yellow and red clearance."""
-    walk = min(plan["phaseWalk"][phase], plan["preemptMinimumWalk"][number])
-    clear = min(
-        plan["phasePedestrianClear"][phase], plan["preemptEnterPedClear"][number]
-    )
-    parts = (("walk", 10 * walk), ("clearance", 10 * clear))
-    return Sum(phase, (*parts, *_clearance(plan, phase)))
+def _conflict(served: Mapping[int, Display], phase: int) -> Conflict:
+    """What a phase showed for how long."""
+    parts: Counter[str] = Counter()
+    for tick, after in pairwise(served):
+        begun = bool(parts.keys() - {"before it"})
+        parts[_part(served[tick], phase, begun)] += after - tick
+    return Conflict(phase, parts)
 
 
-def _clearance(plan: Plan, phase: int) -> tuple[tuple[str, int], ...]:
-    return (
-        ("yellow", plan["phaseYellowChange"][phase]),
-        ("red clearance", plan["phaseRedClear"][phase]),
-    )
-
-
-def sums(plan: Plan, number: int, phases: frozenset[int]) -> dict[str, Sum]:
-    """The rows of a worksheet for phases that conflict: the greatest of each."""
-    others = plan.phases - phases
-    rows = {
-        "conflicting vehicle": [vehicle(plan, number, it) for it in others],
-        "conflicting pedestrian": [
-            pedestrian(plan, number, it) for it in others if plan["phaseWalk"][it]
-        ],
-    }
-    return {
-        name: max(of, key=lambda it: (it.total, -it.phase))
-        for name, of in rows.items()
-        if of
-    }
+def _part(display: Display, phase: int, begun: bool) -> str:
+    """What a phase shows, before it has begun or since."""
+    match display.head(f"P{phase}"), display.head(f"W{phase}"):
+        case "G", "W":
+            return "walk"
+        case "G", "C":
+            return "clearance"
+        case "G", _:
+            return "green"
+        case "Y", _:
+            return "yellow"
+    return "red" if begun else "before it"
 
 
 def rows(
-    plan: Plan, number: int, found: Tries, within: int, entry: Entry | None
+    plan: Plan, number: int, found: Tries, within: int, entry: Entry
 ) -> Iterator[str]:
-    """The lines that are printed, with an entry that is proved if there is one."""
+    """The lines that are printed, with the longest entry, which is proved of a plan in
+    which no overlap trails."""
     stage, phases = first_stage(plan, number)
     named = " and ".join(map(str, sorted(phases)))
     kind = "phase" if len(phases) == 1 else "phases"
     yield marked(f"preempt {number}: the wait for the green of {stage} {kind} {named}")
-    delay = 10 * plan["preemptDelay"][number]
-    yield _row("delay", delay)
-    of = sums(plan, number, phases)
-    for name, it in of.items():
-        yield _row(name, it.total, str(it))
-    by_hand = delay + max((it.total for it in of.values()), default=0)
-    yield _row("sum by hand", by_hand, "delay and the longer one")
-    if entry is not None:
-        yield _row("proved bound", entry.delay + entry.longest, _parts(entry))
-    worst = found.worst
-    if worst is not None:
-        yield _row("worst found", worst[0], f"from tick {worst[1]}")
-    yield from notes(plan, number, found, within)
-    if worst is not None and worst[0] > by_hand:
-        chooses = plan.version == 3 and plan["preemptChoosesAnew"][number]
-        why = "" if chooses else ": see preemptChoosesAnew, docs/use/MANUAL.md"
-        yield f"the worst found is longer than the sum by hand{why}"
+    yield _row("delay", entry.delay)
+    for name in (VEHICLE, PEDESTRIAN):
+        if name in found.longest:
+            at, conflict = found.longest[name]
+            yield _row(name, conflict.total, f"from tick {at}, {conflict}")
+    bound = "bound, not proved" if plan.has_trails else "proved bound"
+    yield _row(bound, entry.delay + entry.longest, _parts(entry))
+    if found.worst is not None:
+        yield _row("worst found", found.worst[0], f"from tick {found.worst[1]}")
+    yield from notes(number, found, within)
+    for _, it in found.longest.values():
+        if "before it" in it.parts and it.total == max(found.totals):
+            yield f"phase {it.phase} turned green in service: see {ANEW}"
 
 
-def notes(plan: Plan, number: int, found: Tries, within: int) -> Iterator[str]:
+def notes(number: int, found: Tries, within: int) -> Iterator[str]:
     """How many moments were tried, and what was found of none."""
     tried = len(found.waits)
     late = [at for at, it in found.waits.items() if it is None]
@@ -176,10 +208,13 @@ def notes(plan: Plan, number: int, found: Tries, within: int) -> Iterator[str]:
     if found.in_service:
         count, first = len(found.in_service), min(found.in_service)
         yield f"left out, as a preempt was in service: {count} moments, as tick {first}"
+    for name in (VEHICLE, PEDESTRIAN):
+        if name not in found.longest:
+            yield f"{name}: no moment has one, so give a log that does"
 
 
 def _parts(entry: Entry) -> str:
-    """The parts of a proved bound."""
+    """The parts of a bound."""
     return f"delay {_seconds(entry.delay)}, longest entry {_seconds(entry.longest)}"
 
 
@@ -231,7 +266,7 @@ def main(words: Sequence[str]) -> int:
         if given.pattern:
             bench.set_pattern(given.pattern)
         found = tries(bench, given.number, phases, last, within)
-    entry = plan.worksheet().entries.get(given.number)
+    entry = plan.worksheet().entries[given.number]
     for line in rows(plan, given.number, found, within, entry):
         print(line)
     return 1 if None in found.waits.values() else 0

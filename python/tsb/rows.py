@@ -77,6 +77,8 @@ def of_fields(given: Iterable[str]) -> str:
 def fields(given: str) -> list[str]:
     """A digit for each vehicle detector, pedestrian detector and preempt of a row, in
     either form; `OutOfRange` where it is none."""
+    if not isinstance(given, str):
+        raise OutOfRange(f"{given!r} is no row: it is a text")
     if given[:1] in ("0", "1"):
         found = given.split(" ")
         if [len(it) for it in found] == [*DIGITS] and not set(given) - set("01 "):
@@ -87,7 +89,7 @@ def fields(given: str) -> list[str]:
 
 
 def _in_lists(given: list[str]) -> str:
-    """The lists of the inputs that are on: nothing of a kind of which none is."""
+    """The lists of the inputs that are on: a kind that has none on is left out."""
     told = []
     for letter, it in zip("VPE", given, strict=True):
         runs = [(found.start() + 1, found.end()) for found in re.finditer("1+", it)]

@@ -8,6 +8,7 @@ Numbers that are of something else are in `OTHERS`, each with what it is of. A n
 """
 import collections
 import itertools
+import math
 import pathlib
 import re
 import sys
@@ -19,7 +20,8 @@ from tools.pages.laws import laws
 TYPE = re.compile(r"^(?:pub(?:\([^)]*\))? )?(?:struct|enum|trait) (\w+)", re.M)
 FILE = re.compile(r"(?<![\w./])((?:[\w-]+/)*[\w-]+\.(?:rt|antt|md|py|json|log|edit))\b")
 NUMBER = re.compile(r"\b([\d,]*\d|[a-z]+) (crates|edits|laws|objects|cells)\b")
-CELLS = re.compile(r"^pub const CELLS: usize = (\d+);", re.M)
+CELLS = re.compile(r"^pub const CELLS: usize = ([^;]+);", re.M)
+LIMIT = re.compile(r"^pub const (\w+): \w+ = (\d+);", re.M)
 MONITOR = re.compile(r"^pub const MONITOR_CELLS: usize = (\d+);", re.M)
 OBJECT = re.compile(r'^ +\w+ +"\w+" +(\d+) \[(\d+) \d+\]', re.M)
 ROW = re.compile(r"^\| (\w+)[^|]* \| (\d+) \| (\d+) \|$", re.M)
@@ -28,12 +30,14 @@ DOCUMENTS = ["README.md", "CONTRIBUTING.md", "docs/*/*.md", "examples/README.md"
              "crates/*/README.md", "python/README.md", "tools/*/README.md"]
 # It has the table of objects, each with its first cell and how many indices it has.
 OBJECTS = pathlib.Path("crates/tsb_plan/src/object.rt")
+# It has how many there are of detectors, overlaps and preempts.
+LIMITS = pathlib.Path("crates/tsb_types/src/limits.rt")
 # It has the table of cells, layer after layer.
 CONTRACTS = pathlib.Path("docs/work/CONTRACTS.md")
 WORDS = {it: k for k, it in enumerate("one two three four five six seven eight nine ten eleven twelve".split(), 1)}
 # The layers whose cells are numbered, in the order of CONTRACTS, with their crates; the plan's are in tsb_plan.
 LAYERS = {"desk": "tsb_transact", "detectors": "tsb_detect", "calls": "tsb_calls", "phases": "tsb_phase",
-          "rings": "tsb_ring", "coordination": "tsb_coord", "preempts": "tsb_preempt"}
+          "rings": "tsb_ring", "coordination": "tsb_coord", "preempts": "tsb_preempt", "overlaps": "tsb_overlap"}
 
 # Types of tests, comparisons and times are not looked at.
 UNPROVED = {"tsb_tests", "tsb_field_tests", "tsb_layer_runs", "tsb_runs"}
@@ -82,6 +86,13 @@ def files_not_there() -> Iterator[str]:
                     yield f"{path}:{number}: there is no {cited}"
 
 
+def count_of(text: str) -> int:
+    """The value of a sum of products of numbers and limits, as `12 + 3 * VEHICLE_DETECTORS as usize`."""
+    limits = dict(LIMIT.findall(LIMITS.read_text()))
+    terms = text.replace(" as usize", "").split("+")
+    return sum(math.prod(int(limits.get(it.strip(), it)) for it in term.split("*")) for term in terms)
+
+
 def layer_cells() -> dict[str, int]:
     """How many cells each layer has, in their order."""
     first, count = max((int(it[0]), int(it[1])) for it in OBJECT.findall(OBJECTS.read_text()))
@@ -92,7 +103,7 @@ def layer_cells() -> dict[str, int]:
     for name, source in sources.items():
         cells = CELLS.search(source.read_text())
         assert cells is not None, source
-        found[name] = int(cells[1])
+        found[name] = count_of(cells[1])
     return {**found, "monitor": int(monitor[1])}
 
 

@@ -24,6 +24,7 @@ USAGE = (
     b"    or tsb_field review PLAN\n"
     b"    or tsb_field schedule [--svg] --week DATE PLAN\n"
     b"    or tsb_field worksheet PLAN\n"
+    b"    or tsb_field card [--against FILE] PLAN\n"
 )
 A_TIME = b'a time is YYYY-MM-DD HH:MM:SS, such as "2026-11-22 07:00:00"\n'
 
@@ -38,12 +39,14 @@ RECORD = ["record", *FROM, "--device", "1001", "quad.json"]
 
 # The last moment of tick 6,000,000, and the first one behind it.
 LAST, BEHIND = "2026-11-29 05:39:59.999999999", "2026-11-29 05:40:00"
+# How many bytes a log has at most, and how many rows of digits.
+LONGEST_LOG = 64 << 20
 MOST_ROWS = 1_720_740
 
 # Words, and what is printed of them: written by hand from docs/use/FIELD.md.
 WRONG = [
-    (["frob"], b'there is no command "frob": log, record, events, diagram, review, schedule or worksheet'),
-    (["-h"], b'there is no command "-h": log, record, events, diagram, review, schedule or worksheet'),
+    (["frob"], b'there is no command "frob": log, record, events, diagram, review, schedule, worksheet or card'),
+    (["-h"], b'there is no command "-h": log, record, events, diagram, review, schedule, worksheet or card'),
     ([*LOG, "--title", "x"], b"--title: the command has no such option; --help after it lists all"),
     ([*LOG, "--zone", "EST"], b'--zone "EST": a zone is an offset such as -07:00, or Z'),
     ([*LOG, "--zone=-Z"], b'--zone "-Z": a zone is an offset such as -07:00, or Z'),
@@ -58,9 +61,9 @@ WRONG = [
     ([*LOG, "--sort-within", "3601"], b'--sort-within "3601": a number of seconds is 1 to 3600'),
     ([*LOG, "--count=5"], b'--count "5": it takes no value'),
     ([*LOG, "--count", "--count"], b"--count comes twice"),
-    ([*LOG, "--vehicle", "5=17"], b'--vehicle "5=17": CHANNEL=DETECTOR, with a detector from 1 to 16'),
-    ([*LOG, "--pedestrian", "5"], b'--pedestrian "5": CHANNEL=DETECTOR, with a detector from 1 to 8'),
-    ([*LOG, "--preempt", "1=5"], b'--preempt "1=5": CHANNEL=INPUT, with an input from 1 to 4'),
+    ([*LOG, "--vehicle", "5=65"], b'--vehicle "5=65": CHANNEL=DETECTOR, with a detector from 1 to 64'),
+    ([*LOG, "--pedestrian", "5"], b'--pedestrian "5": CHANNEL=DETECTOR, with a detector from 1 to 16'),
+    ([*LOG, "--preempt", "1=9"], b'--preempt "1=9": CHANNEL=INPUT, with an input from 1 to 8'),
     ([*LOG, "--as-outputs"], b"--as-outputs has no value (one that begins with a hyphen comes after =): a name or a text has to follow"),
     (["log", "--from", "2026-11-22 07:00"], b'--from "2026-11-22 07:00": ' + A_TIME[:-1]),
     (["log"], b"--from has to be given: " + A_TIME[:-1]),
@@ -79,6 +82,11 @@ WRONG = [
     (["schedule", "--week"], b"--week has no value (one that begins with a hyphen comes after =): " + A_DATE),
     (["worksheet"], b"worksheet names one file, PLAN"),
     (["worksheet", "--week", "quad.json"], b"--week: the command has no such option; --help after it lists all"),
+    (["card"], b"card names one file, PLAN"),
+    (["card", "quad.json", "tee.json"], b"card names one file, PLAN"),
+    (["card", "quad.json", "--against"],
+     b"--against has no value (one that begins with a hyphen comes after =): a name or a text has to follow"),
+    (["card", "--against=a", "--against", "b", "quad.json"], b"--against comes twice"),
     (["schedule", *FROM, "quad.json"], b"--from: the command has no such option; --help after it lists all"),
 ]
 
@@ -767,7 +775,7 @@ def event_runs():
         ALL_LINES.replace(b"----\n", b"0000\n"), b"".join(line * 2 for line in LINES),
         ALL_LINES + display(132) + display(140), b"x" * 100_000 + b"\n" + ALL_LINES,
         b"".join(LINES[:3] + [b"undone tick\n", b"tick 0000031\n", b"refused E5 NotOwner\n"] + LINES[3:]),
-        ALL_LINES + LINES[0][:-1] + b" \n" + LINES[0].replace(b"-R-", b"-W-") + LINES[0].replace(b" 0 ", b" 5 ")
+        ALL_LINES + LINES[0][:-1] + b" \n" + LINES[0].replace(b"-R-", b"-W-") + LINES[0].replace(b" 0 ", b" 9 ")
         + LINES[0].replace(b"0000001", b"000000x") + b"\xff\n",
     ])
     # Lit in the first line; all kinds at once; the last heads.
@@ -847,9 +855,9 @@ def word_runs():
         [*LOG, "--vehicle", "1"], [*LOG, "--time-form"], [*LOG, "--time-form", "month"], [*LOG, "--zone", "07:00"],
         [*LOG, "--zone"], [*LOG, "--zone=+24:00"], [*LOG, "--zone", "-07:00"], [*LOG, "--count=1"], [*LOG, "--count", "--count"],
         [*LOG, EMPTY, EMPTY], [*EVENTS, "--count"], [*LOG, "--zone=Z", "--zone=Z"],
-        [*LOG, "--vehicle", "1=17"], [*LOG, "--vehicle", "1=0"], [*LOG, "--vehicle", "=1"], [*LOG, "--vehicle", "1="],
+        [*LOG, "--vehicle", "1=65"], [*LOG, "--vehicle", "1=0"], [*LOG, "--vehicle", "=1"], [*LOG, "--vehicle", "1="],
         [*LOG, "--vehicle", "1=1=1"], [*LOG, "--vehicle", "4294967296=1"], [*LOG, "--vehicle", "x=1"],
-        [*LOG, "--pedestrian", "1=9"], [*LOG, "--preempt", "1=5"], [*LOG, "--device", "7", "--device", "7"],
+        [*LOG, "--pedestrian", "1=17"], [*LOG, "--preempt", "1=9"], [*LOG, "--device", "7", "--device", "7"],
         ["log", "--", "--from=x"], ["log", "--from"], ["events", *FROM], ["events", "--device", "7"],
         [*EVENTS, "--device", "7"], [*EVENTS, "--title", "x"], [*EVENTS, "car.log"],
         ["events", *FROM, "--device", 'a"b'], ["events", *FROM, "--device", "a\nb"],
@@ -881,6 +889,7 @@ def word_runs():
         ([*LOG, "--as-output=quad.json"], b"--as-outputs"), ([*RECORD, "empty.log", "--recall"], b"--recalls"),
         ([*RECORD, "empty.log", "--output"], b"--outputs"), ([*RECORD, "empty.log", "--no-clok"], b"--no-clock"),
         (["schedul", "quad.json"], b"schedule"), (["worksheets", "quad.json"], b"worksheet"),
+        (["crad", "quad.json"], b"card"), (["card", "--agianst=a", "quad.json"], b"--against"),
         (["schedule", "--weak", "2026-11-22"], b"--week"),
         (["schedule", "--swg", "--week=2026-11-22", "quad.json"], b"--svg"),
     ]:

@@ -20,7 +20,10 @@ CODES = {
 SAID = {signal: code for code, signal in CODES.items()}
 
 # How many inputs a bench has of each kind, in the order of a row's fields.
-MOST = {"vehicle": 16, "pedestrian": 8, "preempt": 4}
+MOST = {"vehicle": 64, "pedestrian": 16, "preempt": 8}
+# How many of them a row in digits has, and the letter of each in a row of lists.
+DIGITS = {"vehicle": 16, "pedestrian": 8, "preempt": 4}
+LETTERS = {"vehicle": "V", "pedestrian": "P", "preempt": "E"}
 
 # The names of the four columns, in small letters and without fillers, in the order that a text without a header has.
 NAMES = [
@@ -78,10 +81,10 @@ EPOCH = datetime.datetime(1970, 1, 1).toordinal() * 86400
 LONGEST_DEVICE = 900
 
 # What stands before the first display line: nothing is lit, and no preempt is in service.
-NOTHING_LIT = 0, b"-" * 16, b"-" * 16, b"-" * 4, b"0"
+NOTHING_LIT = 0, b"-" * 16, b"-" * 16, b"-" * 16, b"0"
 
 # The classes of the bars of a diagram, by the letters of display lines, and the names of the bands of inputs.
-CLASSES = {"G": "g", "Y": "y", "R": "r", "F": "f", "W": "w", "C": "c", "D": "d"}
+CLASSES = {"G": "g", "Y": "y", "R": "r", "F": "f", "P": "q", "W": "w", "C": "c", "D": "d"}
 INPUTS = {"vehicle": "detector", "pedestrian": "ped detector", "preempt": "preempt input"}
 
 HEADER = b"SignalID,Timestamp,EventCode,EventParam\n"
@@ -92,7 +95,9 @@ FORM_TIME = re.compile(
 OFFSET = re.compile(rb"([+-]\d{1,2}?)(?::?(\d\d))?")
 FIELDS = {mark: re.compile(rb'(?:"([^"]*)"|([^"%b][^%b]*|))(%b|\Z)' % (mark, mark, mark), re.S) for mark in MARKS}
 ROWS = re.compile(rb"\((\d{1,10}) rows?(?: affected)?\)")
-SHOWN = re.compile(rb"(\d{7}) ([-RYGF]{16}) ([-DCW]{16}) ([-RYGF]{4}) ([0-4]) (?:\d{4}|-{4})")
+SHOWN = re.compile(rb"(\d{7}) ([-RYGF]{16}) ([-DCW]{16}) ([-RYGPF]{4}) ([0-8]) (?:\d{4}|-{4})")
+# A wide display line has the letters of overlaps 1 to 16 behind it, which then count.
+WIDE = re.compile(rb"(\d{7}) ([-RYGF]{16}) ([-DCW]{16}) [-RYGPF]{4} ([0-8]) (?:\d{4}|-{4}) ([-RYGPF]{16})")
 
 
 class Fault(Exception):
@@ -349,7 +354,7 @@ def lines_of(text):
 
 def wires_of(mapped):
     """The wires: kind, channel and input of each; a channel without one leads to the input of its own number."""
-    own = [(kind, n, n) for kind, most in MOST.items() for n in range(1, most + 1)]
+    own = [(kind, n, n) for kind, most in DIGITS.items() for n in range(1, most + 1)]
     taken = {wire[:2] for wire in mapped}
     return [*mapped, *(wire for wire in own if wire[:2] not in taken)]
 
@@ -360,9 +365,28 @@ def is_on(switched, begin):
     return bool(before and before[-1]) or any(on and begin <= at < begin + TENTH for at, on in switched)
 
 
-def row_text(tick, lit):
-    """The row of a tick in which these inputs are on, with its line feed."""
-    marks = ("".join("01"[(kind, n) in lit] for n in range(1, most + 1)) for kind, most in MOST.items())
+def is_beyond(kind, number):
+    """Whether rows in digits have no such input."""
+    return number > DIGITS[kind]
+
+
+def list_text(numbers):
+    """Numbers with commas between them, and each run of several as a range."""
+    runs = []
+    for number in sorted(numbers):
+        if runs and runs[-1][1] == number - 1:
+            runs[-1][1] = number
+        else:
+            runs.append([number, number])
+    return ",".join(f"{first}" if first == last else f"{first}-{last}" for first, last in runs)
+
+
+def row_text(tick, lit, by_lists=False):
+    """The row of a tick in which these inputs are on, with its line feed: in digits, or by lists."""
+    if by_lists:
+        on = {kind: {n for of, n in lit if of == kind} for kind in MOST}
+        return " ".join([f"{tick:07}", *(LETTERS[kind] + list_text(it) for kind, it in on.items() if it)]).encode() + b"\n"
+    marks = ("".join("01"[(kind, n) in lit] for n in range(1, most + 1)) for kind, most in DIGITS.items())
     return f"{tick:07} {' '.join(marks)}\n".encode()
 
 
@@ -376,11 +400,12 @@ def log_of_events(begin, wires, events, end=TICKS + 1):
     by_wire = {wire: [(at, on) for at, *of, on in events if (*of,) == wire[:2]] for wire in wires}
     ticks = {1} | {max(1, tick_of(begin, at)) + more for at, *_ in events for more in (0, 1)}
     log, before = b"", set()
+    by_lists = any(is_beyond(kind, to) for kind, _, to in wires)
     for tick in sorted(ticks):
         first = begin + (tick - 1) * TENTH
         lit = {(kind, to) for (kind, _, to), switched in by_wire.items() if is_on(switched, first)}
         if lit != before and tick < end:
-            log += row_text(tick, lit)
+            log += row_text(tick, lit, by_lists)
             before = lit
     return log
 
@@ -544,16 +569,16 @@ def begun_log(text, begin, device=None, mapped=(), window=None):
     return known_log(begin, wires, taken(lines_of(text)[:-1], begin, device, wires, window=window, is_all=False).events)
 
 
-def remaining(text):
-    """The display lines of a text that remain: a line takes back those whose tick is not below its own."""
+def remaining(text, is_wide=False):
+    """The display lines of a text that remain, or its wide ones: a line takes back those whose tick is not below its own."""
     found = []
     for line in text.split(b"\n"):
-        shown = SHOWN.fullmatch(line.removesuffix(b"\r"))
+        shown = (WIDE if is_wide else SHOWN).fullmatch(line.removesuffix(b"\r"))
         if shown:
-            tick = int(shown[1])
-            while found and found[-1][0] >= tick:
+            tick, vehicles, pedestrians, *others = shown.groups()
+            while found and found[-1][0] >= int(tick):
                 found.pop()
-            found.append((tick, *shown.groups()[1:]))
+            found.append((int(tick), vehicles, pedestrians, *(others[::-1] if is_wide else others)))
     return found
 
 
@@ -572,7 +597,8 @@ def display_events(before, now):
 
     found = begun(1, b"G", 1) + ended(7, b"G", 1) + begun(8, b"Y", 1) + ended(9, b"Y", 1)
     found += begun(21, b"W", 2) + begun(22, b"C", 2) + ended(23, b"WC", 2)
-    found += begun(61, b"G", 3) + begun(63, b"Y", 3) + ended(64, b"GY", 3)
+    found += begun(32, b"P", 3) + ended(33, b"P", 3)
+    found += begun(61, b"G", 3) + begun(63, b"Y", 3) + ended(64, b"GYP", 3)
     if now[4] not in (b"0", before[4]):
         found.append((105, int(now[4])))
     was, is_now = b"F" in before[1], b"F" in now[1]
@@ -584,7 +610,18 @@ def rows_of(log_text):
     for line in lines_of(log_text):
         if line.strip(b" ") and not line.startswith(b"#"):
             tick, *marks = line.split(b" ")
-            yield int(tick), {(kind, n) for kind, field in zip(MOST, marks) for n in heads(b"1", field)}
+            if marks and marks[0].isdigit():
+                yield int(tick), {(kind, n) for kind, field in zip(MOST, marks) for n in heads(b"1", field)}
+            else:
+                yield int(tick), {it for field in marks for it in listed(field.decode())}
+
+
+def listed(field):
+    """The inputs of a list of a row, as V1,4,17-20."""
+    kind = next(kind for kind, letter in LETTERS.items() if letter == field[0])
+    for item in field[1:].split(","):
+        first, _, last = item.partition("-")
+        yield from ((kind, n) for n in range(int(first), int(last or first) + 1))
 
 
 def input_events(log_text):
@@ -608,10 +645,10 @@ def device_field(device):
     return b'"' + device + b'"' if b"," in device or device.startswith(b"#") else device
 
 
-def events(text, begin, device, log_text=b""):
+def events(text, begin, device, log_text=b"", is_wide=False):
     """The events that display lines and a log tell from a moment on, as CSV."""
     found, before = list(input_events(log_text)), NOTHING_LIT
-    for now in remaining(text):
+    for now in remaining(text, is_wide):
         found += [(now[0], *event) for event in display_events(before, now)]
         before = now
     rows = (b"%s,%s,%d,%d\n" % (device_field(device), time_text(begin + max(tick - 1, 0) * TENTH), code, parameter)
@@ -622,18 +659,18 @@ def events(text, begin, device, log_text=b""):
 def marks(now, lit):
     """What each band shows of a display line and of inputs, by its name: a class, or nothing where it is dark."""
     _, vehicles, pedestrians, overlaps, preempt = (it if isinstance(it, int) else it.decode() for it in now)
-    found = {f"preempt {n}": "p" * (preempt == str(n)) for n in range(1, 5)}
+    found = {f"preempt {n}": "p" * (preempt == str(n)) for n in range(1, 9)}
     found["flash"] = "f" * ("F" in vehicles)
     for n, (vehicle, pedestrian) in enumerate(zip(vehicles, pedestrians), 1):
         found |= {f"{n}": CLASSES.get(vehicle, ""), f"{n} ped": CLASSES.get(pedestrian, "")}
-    found |= {f"overlap {n}": CLASSES.get(letter, "") for n, letter in enumerate(overlaps, 1)}
+    found |= {f"overlap {n}": CLASSES.get(letter, "") for n, letter in enumerate(overlaps.ljust(16, "-"), 1)}
     return found | {f"{name} {n}": "o" * ((kind, n) in lit) for kind, name in INPUTS.items()
                     for n in range(1, MOST[kind] + 1)}
 
 
-def diagram(text, log_text, seconds):
+def diagram(text, log_text, seconds, is_wide=False):
     """The bands of a diagram, and line, band, class, first tick and ticks of each bar, with so many seconds a line."""
-    lines, rows = remaining(text), list(rows_of(log_text))
+    lines, rows = remaining(text, is_wide), list(rows_of(log_text))
     last = lines[-1][0] if lines else 0
     shown = [marks(line, set()) for line in lines] + [marks(NOTHING_LIT, lit) for tick, lit in rows if tick <= last]
     bands = [name for name in marks(NOTHING_LIT, set()) if any(it[name] for it in shown)]

@@ -53,23 +53,25 @@ OPTIONS: dict[str, dict[str, Taken]] = {
     "log": {
         "--from": TIME, "--device": TEXT, "--as-outputs": TEXT, "--zone": Taken("a zone is an offset such as -07:00, or Z", is_zone),
         "--time-form": Taken("a form is year-first, month-first, day-first, seconds or milliseconds", lambda it: it in FORMS),
-        "--count": FLAG, "--allow-empty": FLAG, "--sort": FLAG, "--sort-within": seconds(3600), "--vehicle": wire(DETECTOR, 16),
-        "--pedestrian": wire(DETECTOR, 8), "--preempt": wire("CHANNEL=INPUT, with an input", 4),
+        "--count": FLAG, "--allow-empty": FLAG, "--sort": FLAG, "--sort-within": seconds(3600), "--vehicle": wire(DETECTOR, 64),
+        "--pedestrian": wire(DETECTOR, 16), "--preempt": wire("CHANNEL=INPUT, with an input", 8),
     },
     "record": {"--from": TIME, "--device": DEVICE, "--go-on": FLAG, "--recalls": FLAG, "--outputs": FLAG, "--no-clock": FLAG},
-    "events": {"--from": TIME, "--device": DEVICE, "--log": TEXT},
-    "diagram": {"--from": TIME, "--log": TEXT, "--title": TEXT, "--seconds-per-line": seconds(86400), "--events": TEXT},
+    "events": {"--from": TIME, "--device": DEVICE, "--log": TEXT, "--wide": FLAG},
+    "diagram": {"--from": TIME, "--log": TEXT, "--wide": FLAG, "--title": TEXT, "--seconds-per-line": seconds(86400), "--events": TEXT},
     "review": {},
     "schedule": {"--week": DATE, "--svg": FLAG},
     "worksheet": {},
+    "card": {"--against": TEXT},
 }
 NEEDED: dict[str, list[str]] = {"log": ["--from"], "record": ["--from", "--device"], "events": ["--from", "--device"],
           "diagram": [], "review": [],
-          "schedule": ["--week"], "worksheet": []}
+          "schedule": ["--week"], "worksheet": [], "card": []}
 ANSWERS = b"this command names files by options alone: it reads what `tsb run` answers from standard input"
 FILES = {"log": b"log names no file: it reads an event log from standard input", "record": b"record names two files, PLAN and LOG",
          "review": b"review names one file, PLAN", "events": ANSWERS, "diagram": ANSWERS,
-         "schedule": b"schedule names one file, PLAN", "worksheet": b"worksheet names one file, PLAN"}
+         "schedule": b"schedule names one file, PLAN", "worksheet": b"worksheet names one file, PLAN",
+         "card": b"card names one file, PLAN"}
 
 
 def shown(word: bytes) -> bytes:
@@ -115,7 +117,7 @@ def line(given: Sequence[Word]) -> bytes | None:
         return None
     command = words[0].decode()
     if command not in OPTIONS:
-        return b'there is no command "' + shown(words[0]) + b'": log, record, events, diagram, review, schedule or worksheet\n'
+        return b'there is no command "' + shown(words[0]) + b'": log, record, events, diagram, review, schedule, worksheet or card\n'
     front = words[1:words.index(b"--", 1)] if b"--" in words[1:] else words[1:]
     if any(word.partition(b"=")[0] == b"--help" for word in front):
         return None

@@ -22,7 +22,7 @@ SOON, NONE = 60.0, 0.02
 TRIPS, AHEAD, HUNDREDS = 200, 100, 10
 # How much more memory than the program needs to do anything a run short of memory may have, in KiB. The first limits have
 # no room for the stack, and the last has room for all inputs.
-MORE = range(-192, 1900, 139)
+MORE = range(-320, 1900, 139)
 # The most memory that a program needs to do anything, in KiB.
 MOST = 1 << 17
 

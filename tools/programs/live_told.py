@@ -15,7 +15,7 @@ ALL_OFF = "0000000000000000 00000000 0000"
 TIMES, SAVED = 12, 1000
 FROM, DEVICE = "2026-11-22 07:00:00", "7"
 TIME = re.compile(r"2026-11-22 ([0-9]{2}):([0-9]{2}):([0-9]{2})\.([0-9])")
-DISPLAY = re.compile(rb"[0-9]{7} [-RYGF]{16} [-DCW]{16} [-RYGF]{4} [0-4] [-0-9]{4}\n")
+DISPLAY = re.compile(rb"[0-9]{7} [-RYGF]{16} [-DCW]{16} [-RYGPF]{4} [0-8] [-0-9]{4}\n")
 
 
 def lines_at_random(rng: random.Random, many: int, goes_back: bool) -> list[str]:
@@ -206,7 +206,7 @@ def inputs(live: pathlib.Path) -> list[str]:
         found = [line for line in answers if line.startswith((b"tick ", b"never"))]
         if found != wanted:
             wrong.append(f"inputs {number}: {found}, not {wanted}")
-    bad = ["when input 0", "when input 17", "when button 9", "when preempt 5", "when input", "when buttons 1", "when input 1 1"]
+    bad = ["when input 0", "when input 65", "when button 17", "when preempt 9", "when input", "when buttons 1", "when input 1 1"]
     wrong += difference("no inputs", ran_on(live, [], [plan_of("quad")], text_of(bad)), b"bad command\n" * len(bad))
     return wrong
 

@@ -221,7 +221,7 @@ def clocked(live: pathlib.Path) -> list[str]:
 
 # What each of its lines begins with: a row, the commands of docs/use/MANUAL.md, chapter 6, and those of docs/use/LIVE.md.
 HELPED = ["ROW", "step", "changes", "back", "seek", "goto", "tick", "undo", "show", "status", "plan", "edits", "when", "when", "begin",
-          "set", "verify", "commit", "abort", "pattern", "preempt", "fault", "reset", "clock", "events", "echo", "save", "help", "quit"]
+          "set", "verify", "commit", "abort", "pattern", "preempt", "fault", "reset", "clock", "events", "echo", "lines", "save", "help", "quit"]
 
 
 def helped(live: pathlib.Path) -> list[str]:

@@ -46,7 +46,7 @@ SCENARIOS = [f"tests/test_scenarios.py::{it}" for it in """
     test_one_index_and_all_of_them test_commands_by_tick test_events_before_the_first_tick
     test_another_plan_is_in_the_command test_failures_are_in_the_order_of_their_lines
     test_the_greatest_and_the_least_of_each test_two_heads_and_the_last_tick test_a_panel_begins_at_the_tick
-    test_a_panel_of_a_refused_command test_many_lines_on_one_run
+    test_a_panel_of_a_refused_command test_many_lines_on_one_run test_times_of_the_clock test_times_without_their_clock
 """.split()]
 DIFF = ["tests/test_diff.py"]
 # The tests of each module that can notice a mistake in it: fast ones first.
@@ -70,6 +70,8 @@ TESTS = {
     "diff": DIFF,
     "patterns": DIFF,
     "worksheet": ["tests/test_worksheet.py"],
+    "card": [f"tests/test_arrows.py::{it}" for it in (
+        "test_lines_of_no_card", "test_a_card_by_hand", "test_a_card_that_is_none")],
     "sheet.spreadsheet": [f"tests/test_timing_sheet.py::{it}" for it in (
         "test_out_and_in_is_the_plan", "test_the_tables", "test_a_cell_that_is_wrong",
         "test_all_wrong_cells_are_listed", "test_what_a_hand_may_change", "test_texts_of_strangers",
@@ -80,14 +82,17 @@ TESTS = {
     "exchange.walk": [f"tests/test_oids.py::{it}" for it in (
         "test_lines_by_hand", "test_octets_as_they_are_printed", "test_oids_at_their_bounds",
         "test_a_walk_of_a_street", "test_files_that_are_no_walk", "test_other_ways_to_print_an_oid",
-        "test_a_walk_that_is_too_long", "test_a_line_is_read_as_it_is_printed")],
+        "test_a_walk_that_is_too_long", "test_a_line_is_read_as_it_is_printed", "test_actions_of_events_by_hand",
+        "test_lines_of_a_schedule_by_hand")],
     "exchange.forms": [f"tests/test_oids.py::{it}" for it in (
         "test_lines_by_hand", "test_options_by_hand", "test_what_a_walk_has_no_place_for", "test_a_walk_of_a_street",
-        "test_what_forms_read_back", "test_numbers_that_stand_for_nothing", "test_examples_out_and_in")],
+        "test_what_forms_read_back", "test_numbers_that_stand_for_nothing", "test_examples_out_and_in",
+        "test_lines_of_a_schedule_by_hand", "test_days_of_the_month_by_hand", "test_actions_of_events_by_hand")],
     "exchange.utdf": ["tests/test_utdf.py"],
     "preempt": ["tests/test_preempts.py"],
     "exchange.remarks": [f"tests/test_oids.py::{it}" for it in (
-        "test_remarks_that_follow_one_another", "test_what_a_walk_has_no_place_for", "test_a_walk_of_a_street")],
+        "test_remarks_that_follow_one_another", "test_what_a_walk_has_no_place_for", "test_a_walk_of_a_street",
+        "test_notes_have_no_place")],
     "exchange.sides": ["tests/test_oids.py::test_sides_by_hand", "tests/test_oids.py::test_examples_out_and_in"],
     "sumo.trips": PARTS,
     "sumo.peers": PARTS,
@@ -191,6 +196,7 @@ EQUAL = {
     "panel.track cut: tick < self.end -> tick <= self.end": "nothing lies behind the end",
     "sumo.nema _whole: abs(whole - value) > 1e-09 -> abs(whole - value) >= 1e-09": "no time is just so near to a whole one",
     "scenario.expect of: 3 -> 4": "a head has two digits at most",
+    "scenario.play tick: False -> True": "a bench that keeps events answers the same",
     "scenario.play _advance: if tick <= bench.now: return -> if False: return": NO_TICKS,
     "scenario.play _advance: tick <= bench.now -> tick < bench.now": NO_TICKS,
     "scenario.play _advance: it.tick > first -> it.tick >= first": NO_TICKS,

@@ -39,9 +39,10 @@ INPUTS = [
 KINDS = ["step", "pattern", "preempt", "fault", "reset", "begin", "set", "verify", "commit", "abort", "clock"]
 WAY_BACK = ["show", "undo", "undo", "when interval 2", "back 3", "seek 1", "show", "undo", "undo", "show"]
 
-# The history has some 2,000 bytes of room from the start, and a commit asks for more. Any other input does where less
-# is left than a record of 215 cells can take: behind `NEARLY`, the third input. So each kind is the third there.
-NEARLY = [*["begin 1", "abort 1"] * 24, *["reset"] * 5]
+# The first input asks for memory. It gets 2,048 bytes more than a record of 369 cells takes, and each input up to a commit
+# asks for no more. So another one asks where these bytes are used up: behind `NEARLY`, the third input does, and each kind
+# is the third there.
+NEARLY = [*["begin 1", "abort 1"] * 67, *["reset"] * 5]
 FIRST = [[*NEARLY, "begin 1", "abort 1", *INPUTS[k:], *INPUTS] for k in range(len(INPUTS))]
 BEHIND = [[*NEARLY, "begin 1", "set 1 phaseMaximum1 2 30", "verify 1"],
           [*NEARLY, "begin 1", "set 1 phaseMaximum1 2 30", "abort 1"],

@@ -19,6 +19,8 @@ MANUAL = json.loads((TOP / "python/tsb/manual.json").read_text())
 OBJECTS: dict[str, dict[str, Any]] = MANUAL["objects"]
 UNITS = {**{it: it for it in ("seconds", "tenths of a second", "minutes")}, "list of phases": "list of phases, a sum of 2^(phase-1)"}
 MOST = 2**32 - 1
+# How many there are of some things in texts of versions 1 and 2.
+BEFORE = {"vehicle detector": 16, "pedestrian detector": 8, "overlap": 4, "preempt": 4}
 # How many letters the right name and another may have in the one place where they differ, the nearest first.
 DIFFERENCES = [(1, 0), (0, 1), (1, 1), (2, 2), (2, 1), (1, 2), *(it for count in range(2, 8) for it in ((count, 0), (0, count)))]
 
@@ -118,11 +120,21 @@ def again(path: str, at: int, pairs: Pairs) -> Iterator[str]:
             return
 
 
-def of_table(name: str, entries: Pairs) -> Iterator[str]:
-    """What is printed of the table of an object."""
+def count_in(name: str, version: int | None) -> int:
+    """How many indices an object has in a text of a version, or where that has no such object in the newest."""
+    count: int = OBJECTS[name]["count"]
+    is_earlier = version in (1, 2) and OBJECTS[name]["since"] < 3
+    return min([count] + [most for kind, most in BEFORE.items() if is_earlier and OBJECTS[name]["index"] == kind])
+
+
+def of_table(name: str, entries: Pairs, version: int | None) -> Iterator[str]:
+    """What is printed of the table of an object in a text of a version."""
+    count = count_in(name, version)
     for at, (index, value) in enumerate(entries):
-        if index not in map(str, range(1, OBJECTS[name]["count"] + 1)):
-            yield f"{name}.{index}: no such index, 1 to {OBJECTS[name]['count']}"
+        if index not in map(str, range(1, count + 1)):
+            is_newer = index in map(str, range(1, OBJECTS[name]["count"] + 1))
+            newer = f"version 3 has it, and this text is of version {version}"
+            yield f"{name}.{index}: {newer if is_newer else f'no such index, 1 to {count}'}"
             continue
         yield from again(f"{name}.{index}", at, entries)
         unit, most = unit_of(name), OBJECTS[name]["greatest"]
@@ -155,7 +167,7 @@ def notes(text: bytes) -> list[str]:
         if name in OBJECTS or name in BESIDE:
             found += again(name, at, value.pairs)
         if name in OBJECTS and isinstance(it, Table):
-            found += of_table(name, it.pairs)
+            found += of_table(name, it.pairs, version)
         if name not in OBJECTS and name not in BESIDE:
             right = near(name)
             found.append(f"{name}: no such object" + (f", did you mean {right}?" if right else ""))
@@ -168,7 +180,7 @@ OTHERS = ["3.2", "7.5", "0.5", "12.0", "3.25", "-1", "1e2", "32.0e0", "429496729
 SLIPS = ["phaseMinGreen", "phaseYelowChange", "PhaseWalk", "phasePedClear", "phaseRedClearance", "phaseWlak", "phaseMaxGreen", "unknown",
          "phase", "", "splitTimes", "pedDetectorCallPhase", "phaseMxRecall", "phaseMinimum Green", "patternOfset", "sequenceDat", "notes", "note", "coordReference",
          "overlapType"]
-INDICES = ["0", "01", "1", "2", "8", "16", "17", "+1", "128", "129", ""]
+INDICES = ["0", "01", "1", "2", "8", "9", "16", "17", "64", "65", "+1", "128", "129", ""]
 
 
 def written(source: random.Random, plan: dict[str, dict[str, int]]) -> bytes:

@@ -10,6 +10,7 @@ exports in all forms and display lines are compared with what tools/programs/fie
 the bars of diagrams, which are read as XML. So are the sessions of the examples, and their hour of traffic. There are
 texts of the greatest sizes, too.
 """
+import bisect
 import itertools
 import pathlib
 import random
@@ -18,8 +19,9 @@ import sys
 import tempfile
 import xml.etree.ElementTree
 
-from tools.programs import field_cases, field_rules, review_words, schedule_words, week_pictures, worksheet_words
-from tools.programs.field_cases import BEGIN, FROM, GIB, MOST_ROWS
+from tools.programs import (card_words, field_cases, field_rules, review_words, schedule_words, week_pictures,
+                            worksheet_words)
+from tools.programs.field_cases import BEGIN, FROM, GIB, LONGEST_LOG, MOST_ROWS
 from tools.programs.run_program import EXAMPLES, shown
 
 # How many texts there are of each kind.
@@ -37,6 +39,7 @@ OPTIONS = [
     ("coordination_maximum", "coordination", "coordination", "coordMaximumMode", (0, 1), 300),
     ("permissive_time", "coordination", "permissive_time", "patternPermissiveTime", (0, 5), 300),
     ("lead_and_lag", "coordination", "lead_and_lag", "pattern", (1, 2), 300),
+    ("arrows", "arrows", "lead_and_lag", "pattern", (1, 2), 300),
     ("pedestrian_recycle", "pedestrian_recycle", "pedestrian_recycle", "phasePedestrianRecycle", (0, 1), 300),
     ("coming_into_step", "coming_into_step", "coming_into_step", "coordCorrectionMode", (0, 1, 2, 3), 360),
 ]
@@ -61,13 +64,15 @@ def difference(what, it, wanted):
 
 def random_log(chance):
     """A log whose rows each differ from the one before."""
-    tick, lit, log = 0, set(), b""
-    inputs = [(kind, n) for kind, most in field_rules.MOST.items() for n in range(1, most + 1)]
+    tick, lit, rows = 0, set(), []
+    by_lists = chance.randrange(2) == 0
+    inputs = [(kind, n) for kind, most in (field_rules.MOST if by_lists else field_rules.DIGITS).items() for n in range(1, most + 1)]
     for _ in range(chance.randrange(12)):
         tick += chance.choice([1, 1, 2, 10, 601, 36_000, 500_000])
         lit ^= set(chance.sample(inputs, chance.choice([1, 1, 2, 28])))
-        log += field_rules.row_text(tick, lit)
-    return log
+        rows.append((tick, set(lit)))
+    by_lists = any(field_rules.is_beyond(*it) for _, lit in rows for it in lit)
+    return b"".join(field_rules.row_text(*row, by_lists) for row in rows)
 
 
 def round_trips(program, folder):
@@ -81,6 +86,8 @@ def round_trips(program, folder):
         status, events, errors = answer(program, ["events", *words, "--log", "trip.log"], b"", folder)
         wanted = field_rules.events(b"", field_rules.moment(begin.encode()), device.encode(), log)
         yield from difference(f"events of log {count}", (status, events, errors), (0, wanted, b""))
+        beyond = {it for _, lit in field_rules.rows_of(log) for it in lit if field_rules.is_beyond(*it)}
+        words += [f"--{kind}={number}={number}" for kind, number in sorted(beyond)]
         back = answer(program, ["log", *words, *([] if log else ["--allow-empty"])], events)
         yield from difference(f"round trip {count}", back, (0, log, b""))
 
@@ -244,17 +251,20 @@ def sorted_exports(program):
         yield from difference(f"log of late export {count}", answer(program, words, text), wanted)
 
 
-def random_display(chance):
-    """What a session may answer: display lines that go on or back, and other answers."""
+def random_display(chance, is_wide=False):
+    """What a session may answer: display lines that go on or back, wide ones or not, and other answers."""
     tick, fields = 0, [["-RG"[n % 3] for n in range(16)], ["-D"[n % 2] for n in range(16)], ["-"] * 4, ["0"]]
-    letters = ["-RYGF", "-DCW", "-RYGF", "001234"]
+    letters = ["-RYGF", "-DCW", "-RYGPF", "0012345678"]
+    overlaps = ["-"] * 16
     for _ in range(chance.randrange(80)):
         tick = max(1, tick + chance.choice([1, 1, 1, 1, 5, 0, -1, -7]))
         for _ in range(chance.choice([0, 0, 0, 1, 3])):
             place = chance.randrange(4)
             fields[place][chance.randrange(len(fields[place]))] = chance.choice(letters[place])
         local = chance.choice(["----", f"{tick % 900:04}"])
-        yield " ".join([f"{tick:07}", *("".join(field) for field in fields), local])
+        overlaps[:4], overlaps[chance.randrange(4, 16)] = fields[2], chance.choice(letters[2])
+        wide = ["".join(overlaps)] if is_wide and chance.randrange(9) else []
+        yield " ".join([f"{tick:07}", *("".join(field) for field in fields), local, *wide])
         if chance.randrange(6) == 0:
             others = ["ok", "nothing", "undone tick", "", "bad command", f"{tick:07} {'G' * 16}", "tick 0000001"]
             yield chance.choice(others)
@@ -264,14 +274,15 @@ def events_of_displays(program, folder):
     """Display lines at random from which the program makes other events than the rule, or draws another diagram."""
     for count in range(TEXTS):
         chance = random.Random(f"display {count}")
-        text = "\n".join(random_display(chance)).encode()
+        is_wide = chance.randrange(4) == 0
+        text = "\n".join(random_display(chance, is_wide)).encode()
         log, device = chance.choice([b"", random_log(chance)]), chance.choice(DEVICES)
         (folder / "random.log").write_bytes(log)
-        words = [*FROM, f"--device={device}", "--log", "random.log"]
-        wanted = field_rules.events(text, BEGIN, device.encode(), log)
+        words = [*FROM, f"--device={device}", "--log", "random.log", *(["--wide"] if is_wide else [])]
+        wanted = field_rules.events(text, BEGIN, device.encode(), log, is_wide)
         it = answer(program, ["events", *words], text, folder)
         yield from difference(f"events of display lines {count}", it, (0, wanted, b""))
-        yield from drawn_otherwise(program, folder, text, ("random.log", log), chance.choice([1, 3, 7, 300]))
+        yield from drawn_otherwise(program, folder, text, ("random.log", log), chance.choice([1, 3, 7, 300]), is_wide)
 
 
 def picture_of(program, folder, text, words):
@@ -299,13 +310,13 @@ def drawn(root):
     return bands, sorted(bars)
 
 
-def drawn_otherwise(program, folder, text, log, seconds):
+def drawn_otherwise(program, folder, text, log, seconds, is_wide=False):
     """The bands and bars of a diagram that the rules don't give, or that are missing; log has a name and a text."""
-    words = [f"--seconds-per-line={seconds}", "--log", log[0]]
+    words = [f"--seconds-per-line={seconds}", "--log", log[0], *(["--wide"] if is_wide else [])]
     root, wrong = picture_of(program, folder, text, words)
     if root is None:
         return wrong
-    bands, bars = field_rules.diagram(text, log[1], seconds)
+    bands, bars = field_rules.diagram(text, log[1], seconds, is_wide)
     is_bands, is_bars = drawn(root)
     wrong += [f"diagram {words}: bands {one}, not {bands}" for one in is_bands if one != bands]
     other = set(bars) ^ set(is_bars)
@@ -395,6 +406,7 @@ def greatest(program):
     # The rows before the last event's tick are known, and fit; that of its tick would be one too many.
     more, _ = field_cases.switching(MOST_ROWS + 1)
     yield from difference("a longer log", answer(program, field_cases.LOG, more), (1, log, b"log: too large\n"))
+    yield from longest_lists(program)
     # As many rows of one moment as may be held, and one more.
     row = field_cases.told("07:00:01 1 1")
     most = row * field_rules.MOST_HELD + field_cases.CAR
@@ -412,6 +424,21 @@ def greatest(program):
                 run.stdin.write(piece)
             output, errors = run.communicate(over, 120)
             yield from difference("1 GiB of events", (output, errors, run.returncode), wanted)
+
+
+def longest_lists(program):
+    """What is otherwise of the longest log in lists, by its bytes, and of one with a row more: every other row has each
+    odd detector on."""
+    odd = range(1, 64, 2)
+    words = [*field_cases.LOG, *(word for d in odd for word in ("--vehicle", f"1={d}"))]
+    on = ",".join(map(str, odd))
+    lines = [b"%07d%s\n" % (k, f" V{on}".encode() if k % 2 else b"") for k in range(1, 2 * LONGEST_LOG // len(on) + 2)]
+    ends = [*itertools.accumulate(map(len, lines))]
+    rows = bisect.bisect_right(ends, LONGEST_LOG)
+    log = b"".join(lines[:rows])
+    for more, ended in [(0, (0, log, b"")), (1, (1, log, b"log: too large\n"))]:
+        events, _ = field_cases.switching(rows + more)
+        yield from difference(f"a log in lists of {rows + more} rows", answer(program, words, events), ended)
 
 
 def hour(program, bench):
@@ -517,7 +544,7 @@ def main(words):
         field_cases.fill(folder)
         weeks = schedule_words.weeks_at_random(folder)
         runs = [*worked_runs(), *schedule_words.at_random_runs(weeks),
-                *worksheet_words.at_random_runs(folder)]
+                *worksheet_words.at_random_runs(folder), *card_words.runs(folder), *card_words.at_random_runs(folder)]
         wrong = [f"{run.words} {run.places or ''}{shown(run.commands)}: {it}" for run in runs
                  for it in run.differences(program, folder)]
         wrong += [*round_trips(program, folder), *logs_of_events(program), *logs_of_exports(program)]

@@ -23,11 +23,16 @@ class Worksheet(Plan):
         """The red revert of a phase."""
         return max(self.phase("RedRevert", phase), self.value("unitRedRevert", 1))
 
+    def trails(self) -> list[int]:
+        """The yellow and red clearance of each overlap that trails."""
+        return [self.value("overlapTrailYellow", o) + self.value("overlapTrailRed", o) for o in OVERLAPS
+                if self.value("overlapTrailGreen", o) and self.value("overlapIncludedPhases", o)]
+
     def entry(self, preempt: int) -> int:
         """The longest entry of a preempt."""
         walks = max(self.left(preempt, p) for p in PHASES)
         reverts = max(map(self.revert, PHASES))
-        clears = max(reverts, *map(self.leaving, PHASES))
+        clears = max(reverts, *self.trails(), *map(self.leaving, PHASES))
         green = 10 * self.value("preemptMinimumGreen", preempt) + 1
         if self.value("preemptChoosesAnew", preempt) and not any(self.value("overlapIncludedPhases", o) for o in OVERLAPS):
             return max(walks, green, reverts) + clears + 4

@@ -41,7 +41,7 @@ TAKEN_AWAY = re.compile(r"has no field|is not in scope|has no `|was not admitted
 # printed again at the end.
 WEAK = "(only because a proof file names what the edit took away"
 # How many edits of several crates share a run at most, so that there are runs for all processors to the end.
-MOST = 60
+MOST = 70
 # The crate that is checked. It is empty, and those with edits are beside it as sources of libraries.
 EMPTY = "edits"
 

@@ -34,7 +34,7 @@ USUAL, RECALLS, OUTPUTS = Form(), Form(recalls=True), Form(outputs=True)
 HEADER = b"SignalID,Timestamp,EventCode,EventParam\n"
 TENTH = datetime.timedelta(milliseconds=100)
 
-DETECTORS, BUTTONS, PREEMPTS, OVERLAPS = range(1, 17), range(1, 9), range(1, 5), range(1, 5)
+DETECTORS, BUTTONS, PREEMPTS, OVERLAPS = range(1, 65), range(1, 17), range(1, 9), range(1, 17)
 
 # Intervals of phases: green, yellow, red clearance. A code comes where one of these begins, or ends.
 INTERVAL_BEGINS = {0: "G", 1: "G", 8: "Y", 10: "C"}

@@ -16,22 +16,29 @@ from tools.reference.reference_status import status_of
 from tools.reference.reference_status_text import line_of
 
 ROW = re.compile(rb"[01]{16} [01]{8} [01]{4}")
-DISPLAY = re.compile(r"[0-9]{7} \S{16} \S{16} \S{4} [0-4] \S{4}")
+DISPLAY = re.compile(r"[0-9]{7} \S{16} \S{16} \S{4} [0-8] \S{4}")
 LONGEST = 200  # bytes of a line
 # Of each kind of input the field of a row that has it, and how many there are.
-INPUTS = {"input": (0, 16), "button": (1, 8), "preempt": (2, 4)}
+INPUTS = {"input": (0, 64), "button": (1, 16), "preempt": (2, 8)}
+# How many of each a row of digits has.
+DIGITS = (16, 8, 4)
+# How many of each the plan texts of version 2 have.
+BEFORE = {"vehicleDetector": 16, "pedestrianDetector": 8, "overlap": 4, "preempt": 4}
 SWITCH = {"on": True, "off": False}
 
 
 # --- what one line has ---
 
 def plan_text(state: State) -> str:
-    """The plan in effect: what is not 0, as a plan text of version 2."""
+    """The plan in effect: what is not 0, as a plan text of version 2, or of 3 where an index is beyond version 2."""
     told: dict[str, Any] = {"version": 2}
     for name in state.lim.objects:
         table = {str(index): value for index, value in enumerate(state.plan[name]) if index and value}
         if table:
             told[name] = table
+            most = next((count for part, count in BEFORE.items() if name.startswith(part)), None)
+            if most and max(map(int, table)) > most:
+                told["version"] = 3
     return json.dumps(told, separators=(",", ":"))
 
 
@@ -44,8 +51,8 @@ def edits_text(state: State) -> str:
 
 
 def row_text(row: Row) -> str:
-    """A row as a log has it behind its tick."""
-    return " ".join("".join("1" if is_on else "0" for is_on in field) for field in row)
+    """A row of digits as a log has it behind its tick."""
+    return " ".join("".join("1" if is_on else "0" for is_on in field[:count]) for field, count in zip(row, DIGITS))
 
 
 def command_text(given: tuple[Any, ...]) -> str:
@@ -92,7 +99,8 @@ class LiveSession:
 
     def give(self, line: bytes) -> None:
         """Takes the inputs of a row for this tick and those behind it."""
-        self.session.rows = [(0, tuple(tuple(byte == 49 for byte in field) for field in line.split(b" ")))]
+        fields = zip(line.split(b" "), self.bench.OFF)
+        self.session.rows = [(0, tuple(tuple(byte == 49 for byte in field.ljust(len(off), b"0")) for field, off in fields))]
 
     def rows(self) -> Iterator[Row]:
         """The rows of the ticks that remain, from the newest on, and after them one with all inputs off."""

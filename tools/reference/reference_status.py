@@ -11,13 +11,16 @@ import json
 from typing import Any, NamedTuple
 
 from tools.reference.make_sessions import Reference
-from tools.reference.reference_events import (ARROW, DETECTORS, FLOATING, FREE, OVERLAPS, STAGE_LISTS, State, acting_maximum,
+from tools.reference.reference_events import (ARROW, DETECTORS, FLOATING, FREE, OVERLAPS, PREEMPTS, STAGE_LISTS, State,
+                                              acting_maximum,
                                               clearance, cycle_of, failed_detectors, force_off_instant,
                                               has_maximum_recall, is_coordinated, of_split, overlap_heads,
                                               pedestrian_calls, runs_pattern, shown_intervals, shown_parts, showing,
                                               vehicle_calls)
 
-RINGS, PREEMPTS = (1, 2), range(1, 5)
+RINGS = (1, 2)
+# How many preempts a status has where no other is active.
+FEW = 4
 OMITTED = 5
 # The coded part of ringStatus.
 MINIMUM, EXTENSION, MAXIMUM, GREEN_REST, YELLOW_CHANGE, RED_CLEARANCE, RED_REST = range(7)
@@ -380,7 +383,8 @@ def status_of(reference: Reference, state: State) -> dict[str, Any]:
     told |= {f"overlapStatusGroup{name}": sorted(them) for name, them in overlap_groups(bench, state).items()}
     told["vehicleDetectorStatusGroupActive"] = [detector for detector in DETECTORS if state.out[detector]]
     told["vehicleDetectorStatusGroupAlarms"] = sorted(failed_detectors(state))
-    told["preemptState"] = [preempt_state(bench, state, preempt) for preempt in PREEMPTS]
+    states = [preempt_state(bench, state, preempt) for preempt in PREEMPTS]
+    told["preemptState"] = states if any(it != NOT_ACTIVE for it in states[FEW:]) else states[:FEW]
     told |= coordination(bench, state)
     told["unitFlashStatus"] = NOT_FLASH if state.trip is None else MMU
     told |= {"deskOwner": state.owner, "deskState": state.desk}

@@ -8,7 +8,8 @@ The three are the built programs. Each subject gives tables of docs/trust/SPEED.
 - texts: plan texts that are checked, and a long log;
 - files: the filters of tsb_field on ten hours and on a day, and how many days are recorded in a second;
 - lives: round trips of a tick through pipes;
-- phases, changes, ticks: what a tick takes with more phases, with more detectors that change, and in longer sessions;
+- phases, detectors, changes, ticks: what a tick takes with more phases, with more detectors, with more of them that
+  change at once, and in longer sessions;
 - edits: what a transaction takes with more edits;
 - profile: the functions in which a session executes its instructions.
 
@@ -28,10 +29,10 @@ from tools.speed.files import field_files
 from tools.speed.kit import Files, Setup, Table, has_counter
 from tools.speed.live import lives
 from tools.speed.profile import profile
-from tools.speed.sessions import change_growth, edit_growth, phase_growth, sessions, texts, tick_growth
+from tools.speed.sessions import change_growth, detector_growth, edit_growth, phase_growth, sessions, texts, tick_growth
 
 DOCUMENT = pathlib.Path("docs/trust/SPEED.md")
-SUBJECTS = ["sessions", "texts", "files", "lives", "phases", "changes", "edits", "ticks", "profile"]
+SUBJECTS = ["sessions", "texts", "files", "lives", "phases", "detectors", "changes", "edits", "ticks", "profile"]
 
 
 def words_of() -> argparse.Namespace:
@@ -75,6 +76,7 @@ def main() -> None:
             "files": lambda: [field_files(setup, field, asked.days)],
             "lives": lambda: [lives(setup, live)],
             "phases": lambda: [phase_growth(setup)],
+            "detectors": lambda: [detector_growth(setup)],
             "changes": lambda: [change_growth(setup)],
             "edits": lambda: [edit_growth(setup)],
             "ticks": lambda: [tick_growth(setup)],

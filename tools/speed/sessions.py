@@ -4,7 +4,7 @@ import dataclasses
 from collections.abc import Callable, Sequence
 
 from tools.speed.kit import Counted, Files, Run, Setup, Table, Talk, Times, count_ahead, counts, in_turn, ratio
-from tools.speed.texts import changing_log, longest_log, plan_of, plan_texts, random_log, restless_log
+from tools.speed.texts import changing_log, longest_log, plan_of, plan_texts, random_lists, random_log, restless_log
 
 PLAN = "examples/quad.json"
 
@@ -15,7 +15,7 @@ SHOWS = 100_000
 
 NANO, MILLI, MILLION = 1e-9, 1e-3, 1e6
 
-PHASES, CHANGES = (2, 4, 8, 16), (0, 1, 4, 16)
+PHASES, CHANGES, DETECTORS = (2, 4, 8, 16), (0, 1, 4, 16), (8, 16, 32, 64)
 TICKS, EDITS = (10_000, 100_000, 1_000_000, 6_000_000), (1, 4, 16, 64)
 
 # Cells that a commit may change at any time: enough for a transaction.
@@ -192,6 +192,14 @@ def phase_growth(setup: Setup) -> Table:
     log = random_log_path(setup.files, ticks, 16)
     plans = {count: setup.files.path(f"phases-{count}.json", lambda it=count: plan_of(it)) for count in PHASES}
     return growth(setup, "phases", "Phases", [Size(str(it), path, log, ticks) for it, path in plans.items()])
+
+
+def detector_growth(setup: Setup) -> Table:
+    """What a tick takes as more detectors change every 3 to 10 seconds, in a plan of 64. The program beside has 16."""
+    alone, ticks = dataclasses.replace(setup, programs=setup.programs[:1]), setup.ticks(GROWN)
+    plan = setup.files.path("detectors-64.json", lambda: plan_of(8, 64))
+    logs = {it: setup.files.path(f"lists-{it}.log", lambda it=it: random_lists(0, ticks, it)) for it in DETECTORS}
+    return growth(alone, "detectors", "Detectors", [Size(str(it), plan, log, ticks) for it, log in logs.items()])
 
 
 def change_growth(setup: Setup) -> Table:

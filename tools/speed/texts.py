@@ -38,25 +38,42 @@ class Chance:
         return (state * 0x2545_F491_4F6C_DD1D & WORD) // 2048 % most
 
 
-def random_log(number: int, ticks: int, detectors: int = 8) -> bytes:
-    """The log of this number: so many vehicle detectors change every 3 to 10 seconds, pedestrian 2 every 20 to 120.
-
-    With 8 detectors it is the log that crates/tsb_runs makes.
-    """
-    chance, row, found = Chance(number), bytearray(ROW), bytearray()
+def random_changes(number: int, ticks: int, detectors: int) -> Iterator[tuple[int, list[int]]]:
+    """The ticks in which inputs change, and the places of these: vehicle detectors from 0 on, and then pedestrian
+    detector 2. The first change every 3 to 10 seconds, the other every 20 to 120."""
+    chance = Chance(number)
     due = [(1 + chance.below(100), place) for place in range(detectors + 1)]
     heapq.heapify(due)
     while due[0][0] <= ticks:
-        tick = due[0][0]
+        tick, places = due[0][0], []
         while due[0][0] == tick:
             place = due[0][1]
-            is_vehicle = place < detectors
-            row[VEHICLE + place if is_vehicle else PEDESTRIAN] ^= 1
-            pause = 30 + chance.below(71) if is_vehicle else 200 + chance.below(1000)
+            places.append(place)
+            pause = 30 + chance.below(71) if place < detectors else 200 + chance.below(1000)
             heapq.heapreplace(due, (tick + pause, place))
+        yield tick, places
+
+
+def random_log(number: int, ticks: int, detectors: int = 8) -> bytes:
+    """The log of this number, of at most 16 vehicle detectors. With 8 it is the log that crates/tsb_runs makes."""
+    row, found = bytearray(ROW), bytearray()
+    for tick, places in random_changes(number, ticks, detectors):
+        for place in places:
+            row[VEHICLE + place if place < detectors else PEDESTRIAN] ^= 1
         row[:7] = b"%07d" % tick
         found += row
     return bytes(found)
+
+
+def random_lists(number: int, ticks: int, detectors: int) -> bytes:
+    """The log of this number in lists."""
+    on, found = set[int](), []
+    for tick, places in random_changes(number, ticks, detectors):
+        on ^= set(places)
+        vehicles = ",".join(str(place + 1) for place in sorted(on - {detectors}))
+        lists = [f" V{vehicles}"] * bool(vehicles) + [" P2"] * (detectors in on)
+        found.append(f"{tick:07}{''.join(lists)}\n")
+    return "".join(found).encode()
 
 
 def restless_log(number: int, ticks: int) -> bytes:
@@ -83,11 +100,11 @@ def longest_log() -> bytes:
     return changing_log(LONGEST_LOG // len(ROW), 1)
 
 
-def plan_of(phases: int) -> bytes:
+def plan_of(phases: int, detectors: int = 16) -> bytes:
     """A plan of 2, 4, 8 or 16 phases: as many in each of two rings and on each of two sides. But 2 phases have one
     ring, and 16 have four sides.
 
-    Vehicle detectors 1 to 16 call the phases in turn, and pedestrian detector 2 phase 2.
+    So many vehicle detectors call the phases in turn, and pedestrian detector 2 phase 2.
     """
     ring = max(phases // 2, 2)
     numbers = range(1, phases + 1)
@@ -99,13 +116,13 @@ def plan_of(phases: int) -> bytes:
         "phaseWalk": {2: 4}, "phasePedestrianClear": {2: 6}, "pedestrianDetectorCallPhase": {2: 2},
         "phaseMinRecall": dict.fromkeys(range(2, phases + 1, ring), 1),
         "phaseDualEntry": dict.fromkeys(range(2, phases + 1, 2), 1), "unitRedRevert": {1: 20},
-        "vehicleDetectorCallPhase": {d: 1 + (d - 1) % phases for d in range(1, 17)},
+        "vehicleDetectorCallPhase": {d: 1 + (d - 1) % phases for d in range(1, detectors + 1)},
         "sequenceData": {16 * (rings[p] - 1) + (p - 1) % ring + 1: p for p in numbers},
     }
     for name, value in [("MinimumGreen", 5), ("Maximum1", 20), ("Maximum2", 20), ("Passage", 20), ("MinimumGap", 20),
                         ("YellowChange", 30), ("RedClear", 10)]:
         plan[f"phase{name}"] = dict.fromkeys(numbers, value)
-    return json.dumps({"version": 2, **plan}).encode()
+    return json.dumps({"version": 2 if detectors <= 16 else 3, **plan}).encode()
 
 
 def advised_plan() -> bytes:

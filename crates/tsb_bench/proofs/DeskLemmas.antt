@@ -27,7 +27,7 @@ use Rattle.tsb_bench.proofs.InputLemmas.{beside}
 pub set-refusals : (now : ℕ) (a : All) (station : ℕ) (id : ObjectId) (v : ℕ) → calls.set_refusal station id v (desk_in a.desk) ≡ set_refusal (all_in now a) station id v
 set-refusals now a station id v =
     ap (λ (o : Option Refusal). calls.or_refusal (calls.stranger_refusal station (desk_in a.desk).owner) (calls.or_refusal o (calls.refused_if (calls.has_no_room id (desk_in a.desk).edits) TooManyEdits)))
-    (sym (same_refusal (plan_in a.plan) id v refl refl))
+    (sym (same_refusal (plan_in a.plan) id v (record { phases = refl; sides = refl; counts = refl })))
 
 -- what a call of the desk makes that is not refused
 pub makes-none : (o : Option Refusal) (next : Desk) (old new : List ℕ) (result : Result (Unit {0}) Refusal) → o ≡ None → Makes o next old new result → desk_in new ≡ next

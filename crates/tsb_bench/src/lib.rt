@@ -28,8 +28,8 @@ pub use tsb_heads::{Display, Trip};
 pub use tsb_history::{History, Kind};
 pub use tsb_machine::Answer;
 pub use tsb_objects::{
-    Checked, Detector, DetectorSet, Lamp, NumberSet, Object, ObjectId, Overlap, PedestrianColor, Phase, Plan,
-    Preempt, Refusal, Row, Rule, SignalColor, Stage, Station, Watch,
+    Checked, Detector, DetectorSet, Lamp, NumberSet, Object, ObjectId, Overlap, PedestrianColor,
+    Phase, Plan, Preempt, Refusal, Row, Rule, SignalColor, Stage, Station, Watch,
 };
 pub use tsb_status::Status;
 pub use tsb_step::log_form::{LogForm, Noted};

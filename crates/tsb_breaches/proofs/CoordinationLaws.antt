@@ -21,13 +21,14 @@ use Rattle.tsb_breaches.proofs.PatternLaws.{IsNamed, names-listing, names-table}
 use Rattle.tsb_breaches.proofs.PreemptLaws.{apart-down, apart-up, at-16, follows, for-16, imply, other-than, refuse, refuse-unless, refused}
 use Rattle.tsb_breaches.proofs.SequenceLaws.{same-run}
 
-any-run : (test : ℕ → Bool) (a n k : ℕ) → a ≤ k → k < a + n → test k ≡ true → list_any test (run_from a n) ≡ true
+-- one of a run of phases is a coordinated phase of the ring
+some-beside : (plan : Plan) (t r a n k : ℕ) → a ≤ k → k < a + n → is_beside plan t r k ≡ true → list_any (is_beside plan t r) (run_from a n) ≡ true
 unfolding run_from
-any-run test a zero k from below is = absurd (omega arith)
-any-run test a (suc n) k from below is =
+some-beside plan t r a zero k from below is = absurd (omega arith)
+some-beside plan t r a (suc n) k from below is =
     elim (cases_eq a k) [
-      | inl same ↦ or_left (test a) _ (ap test same ∙ is)
-      | inr apart ↦ or_right (test a) _ (any-run test (a + 1) n k (omega arith) (omega arith) is)
+      | inl same ↦ or_left (is_beside plan t r a) _ (ap (is_beside plan t r) same ∙ is)
+      | inr apart ↦ or_right (is_beside plan t r a) _ (some-beside plan t r (a + 1) n k (omega arith) (omega arith) is)
     ]
 
 -- two conditions and what they ask for
@@ -163,7 +164,7 @@ table-there v l s t e =
     ends-with v l s t p q met one (record { from = qf; to = qt; is = also }))))
     (all-run_from (λ r. not (has_phases plan r (side_of plan p)) || coordinated_count plan t r == 1) 1 2 (λ r rf rt. imply (has_phases plan r (side_of plan p)) _ (λ has.
     follows (list_any (is_beside plan t r) (run_from 1 16)) (coordinated_count plan t r == 1) (at-run_from (λ x. not (has_wrong_count plan t x)) 1 2 r met.counted rf rt)
-    (any-run (is_beside plan t r) 1 16 p from to (and_from (is_coordinated plan t p) _ is has)))))))))
+    (some-beside plan t r 1 16 p from to (and_from (is_coordinated plan t p) _ is has)))))))))
 
 -- what is so of a coordinated phase
 record Coordinates (plan : Plan) (l : Bool) (s t p : ℕ) : Type 0 where

@@ -2,6 +2,7 @@
 use Rattle.std.proofs.Common.{◌≡◌, ◌∙◌, ℕ, Bool, not, refl}
 use Rattle.std.specs.List.{list_all}
 use Rattle.tsb_plan.specs.Plan.{Plan}
+use Rattle.tsb_types.specs.declared.limits.TheConstants.{OVERLAPS, PEDESTRIAN_DETECTORS, PREEMPTS, VEHICLE_DETECTORS}
 use Rattle.tsb_types.specs.Lists.{run_from}
 use Rattle.tsb_breaches.specs.declared.fault.RuleFault.{RuleFault}
 use Rattle.tsb_review.specs.declared.place.Shape.{Shape}
@@ -42,26 +43,26 @@ pub none-sequence_phase : (plan : Plan) (f : RuleFault) →
     none_of plan f shapes.SequencePhase ≡ list_all (λ s. list_all (λ r. none_up_to 16 (of_sequence_phase plan f s r)) (run_from 1 2)) (run_from 1 4)
 none-sequence_phase plan f = all-places shapes.SequencePhase (λ place. not (is_at plan f place))
 
-pub none-detector : (plan : Plan) (f : RuleFault) → none_of plan f shapes.Detector ≡ none_up_to 16 (calls_unused plan)
+pub none-detector : (plan : Plan) (f : RuleFault) → none_of plan f shapes.Detector ≡ none_up_to VEHICLE_DETECTORS (calls_unused plan)
 none-detector plan f = all-singles shapes.Detector (λ place. not (is_at plan f place)) refl refl
 
-pub none-pedestrian_detector : (plan : Plan) (f : RuleFault) → none_of plan f shapes.PedestrianDetector ≡ none_up_to 8 (of_pedestrian_detector plan f)
+pub none-pedestrian_detector : (plan : Plan) (f : RuleFault) → none_of plan f shapes.PedestrianDetector ≡ none_up_to PEDESTRIAN_DETECTORS (of_pedestrian_detector plan f)
 none-pedestrian_detector plan f = all-singles shapes.PedestrianDetector (λ place. not (is_at plan f place)) refl refl
 
-pub none-overlap : (plan : Plan) (f : RuleFault) → none_of plan f shapes.Overlap ≡ none_up_to 4 (modifies_nothing plan)
+pub none-overlap : (plan : Plan) (f : RuleFault) → none_of plan f shapes.Overlap ≡ none_up_to OVERLAPS (modifies_nothing plan)
 none-overlap plan f = all-singles shapes.Overlap (λ place. not (is_at plan f place)) refl refl
 
-pub none-overlap_phase : (plan : Plan) (f : RuleFault) → none_of plan f shapes.OverlapPhase ≡ list_all (λ o. none_up_to 16 (of_overlap_phase plan f o)) (run_from 1 4)
+pub none-overlap_phase : (plan : Plan) (f : RuleFault) → none_of plan f shapes.OverlapPhase ≡ list_all (λ o. none_up_to 16 (of_overlap_phase plan f o)) (run_from 1 OVERLAPS)
 none-overlap_phase plan f = all-pairs shapes.OverlapPhase (λ place. not (is_at plan f place)) refl
 
-pub none-preempt : (plan : Plan) (f : RuleFault) → none_of plan f shapes.Preempt ≡ none_up_to 4 (of_preempt plan f)
+pub none-preempt : (plan : Plan) (f : RuleFault) → none_of plan f shapes.Preempt ≡ none_up_to PREEMPTS (of_preempt plan f)
 none-preempt plan f = all-singles shapes.Preempt (λ place. not (is_at plan f place)) refl refl
 
-pub none-preempt_phase : (plan : Plan) (f : RuleFault) → none_of plan f shapes.PreemptPhase ≡ list_all (λ m. none_up_to 16 (of_preempt_phase plan f m)) (run_from 1 4)
+pub none-preempt_phase : (plan : Plan) (f : RuleFault) → none_of plan f shapes.PreemptPhase ≡ list_all (λ m. none_up_to 16 (of_preempt_phase plan f m)) (run_from 1 PREEMPTS)
 none-preempt_phase plan f = all-pairs shapes.PreemptPhase (λ place. not (is_at plan f place)) refl
 
 pub none-preempt_phases : (plan : Plan) (f : RuleFault) →
-    none_of plan f shapes.PreemptPhases ≡ list_all (λ m. list_all (λ p. none_up_to 16 (of_preempt_phases plan f m p)) (run_from 1 16)) (run_from 1 4)
+    none_of plan f shapes.PreemptPhases ≡ list_all (λ m. list_all (λ p. none_up_to 16 (of_preempt_phases plan f m p)) (run_from 1 16)) (run_from 1 PREEMPTS)
 none-preempt_phases plan f = all-places shapes.PreemptPhases (λ place. not (is_at plan f place))
 
 pub none-pattern : (plan : Plan) (f : RuleFault) → none_of plan f shapes.Pattern ≡ none_up_to 16 (of_pattern plan f)

@@ -8,6 +8,7 @@ use Rattle.tsb_plan.specs.Parts.{call_phase, pedestrian_call_phase, is_minus_gre
 use Rattle.tsb_plan.specs.Plan.{Plan, is_enabled, has_pedestrian_recall, ring_of, side_of, is_concurrent, minimum_green, minimum_gap, passage, yellow_change, dynamic_maximum_limit}
 use Rattle.tsb_rules.specs.PatternRules.{some_and}
 use Rattle.tsb_rules.specs.Rules.{some_enabled, are_placed, is_placed, unused_lists_are_empty, may_be_concurrent, names_across_rings, lists_name_across_rings, is_named_back, concurrency_is_symmetric, yellows_are_long, gaps_can_reduce, maximums_reach_minimums, reaches_minimum, has_walk, recalled_pedestrians_walk, none_or, detectors_call_phases, serves_pedestrians, pedestrian_detectors_call_walks, names_enabled, included_phases_are_enabled, dwells_or_is_empty, preempts_dwell, modifies_rightly, modifiers_are_right, limits_reach_minimums}
+use Rattle.tsb_types.specs.declared.limits.TheConstants.{OVERLAPS, PEDESTRIAN_DETECTORS, PREEMPTS, VEHICLE_DETECTORS}
 use Rattle.tsb_types.specs.Lists.{run_from}
 use Rattle.tsb_types.specs.Sets.{names}
 use Rattle.tsb_breaches.specs.declared.fault.RuleFault.TheVariants.{K1, K2Ring, K2Side, K3, K4Unused, K4Ring, K4Side, K5, K8, K9, K10Maximum1, K10Maximum2, K11, K12, K13Unused, K13Walk, K14, K16Track, K16Exit, K21Unused, K21Type, K22}
@@ -141,7 +142,7 @@ pub met-12 : (v : Object → ℕ → ℕ) → none_at (of_values v) K12 ≡ dete
 met-12 v =
     let plan : Plan = of_values v in
     none-detector plan K12
-    ∙ all-same (λ d. not (calls_unused plan d)) (λ d. none_or (is_enabled plan) (call_phase plan d)) (λ d. used plan (call_phase plan d)) (run_from 1 16)
+    ∙ all-same (λ d. not (calls_unused plan d)) (λ d. none_or (is_enabled plan) (call_phase plan d)) (λ d. used plan (call_phase plan d)) (run_from 1 VEHICLE_DETECTORS)
   where
     used : (plan : Plan) (o : Option ℕ) → not (some_and (is_unused plan) o) ≡ none_or (is_enabled plan) o
     used plan None = refl
@@ -152,7 +153,7 @@ met-13 v =
     let plan : Plan = of_values v in
     and-both (none-pedestrian_detector plan K13Unused) (none-pedestrian_detector plan K13Walk)
     ∙ both-are (λ d. not (button_calls_unused plan d)) (λ d. not (button_calls_no_walk plan d)) (λ d. none_or (serves_pedestrians plan) (pedestrian_call_phase plan d))
-    (λ d. serves plan (pedestrian_call_phase plan d)) (run_from 1 8)
+    (λ d. serves plan (pedestrian_call_phase plan d)) (run_from 1 PEDESTRIAN_DETECTORS)
   where
     walks : (e w : Bool) → (not (not e) && not (e && not w)) ≡ (e && w)
     walks true w = not-not w
@@ -172,7 +173,7 @@ pub met-14 : (v : Object → ℕ → ℕ) → none_at (of_values v) K14 ≡ incl
 met-14 v =
     let plan : Plan = of_values v in
     none-overlap_phase plan K14
-    ∙ all-same (λ o. none_up_to 16 (lists_unused plan OverlapIncludedPhases o)) (λ o. names_enabled plan (v OverlapIncludedPhases o)) (all-enabled v OverlapIncludedPhases) (run_from 1 4)
+    ∙ all-same (λ o. none_up_to 16 (lists_unused plan OverlapIncludedPhases o)) (λ o. names_enabled plan (v OverlapIncludedPhases o)) (all-enabled v OverlapIncludedPhases) (run_from 1 OVERLAPS)
 
 -- ## K16 and K21
 
@@ -181,11 +182,11 @@ met-16 v =
     let plan : Plan = of_values v in
     and-both (none-preempt plan K16Track) (none-preempt plan K16Exit)
     ∙ both-are (λ m. not (has_no_dwell plan PreemptTrackPhase m)) (λ m. not (has_no_dwell plan PreemptExitPhase m)) (dwells_or_is_empty plan)
-    (λ m. two-under (v PreemptDwellPhase m == 0) (v PreemptTrackPhase m == 0) (v PreemptExitPhase m == 0)) (run_from 1 4)
+    (λ m. two-under (v PreemptDwellPhase m == 0) (v PreemptTrackPhase m == 0) (v PreemptExitPhase m == 0)) (run_from 1 PREEMPTS)
 
 pub met-21 : (v : Object → ℕ → ℕ) → (none_at (of_values v) K21Unused && none_at (of_values v) K21Type) ≡ modifiers_are_right (of_values v)
 met-21 v =
     let plan : Plan = of_values v in
     and-both (none-overlap_phase plan K21Unused) (none-overlap plan K21Type)
     ∙ both-are (λ o. none_up_to 16 (lists_unused plan OverlapModifierPhases o)) (λ o. not (modifies_nothing plan o)) (modifies_rightly plan)
-    (λ o. and-both (all-enabled v OverlapModifierPhases o) (neither (is_minus_green_yellow plan o) (v OverlapModifierPhases o == 0))) (run_from 1 4)
+    (λ o. and-both (all-enabled v OverlapModifierPhases o) (neither (is_minus_green_yellow plan o) (v OverlapModifierPhases o == 0))) (run_from 1 OVERLAPS)

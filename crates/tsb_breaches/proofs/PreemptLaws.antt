@@ -9,6 +9,7 @@ use Rattle.tsb_plan.specs.Plan.{Plan, is_enabled, is_concurrent}
 use Rattle.tsb_rules.specs.Rules.{goes_with_all, names_concurrent, has_concurrent_lists, preempts_are_concurrent}
 use Rattle.tsb_rules.proofs.RuleLemmas.{at-run_from, under}
 use Rattle.tsb_types.proofs.RunLemmas.{all-run_from}
+use Rattle.tsb_types.specs.declared.limits.TheConstants.{PREEMPTS}
 use Rattle.tsb_types.specs.Lists.{run_from}
 use Rattle.tsb_types.specs.Sets.{names}
 use Rattle.tsb_breaches.specs.declared.fault.RuleFault.TheVariants.{K15TrackUnused, K15DwellUnused, K15ExitUnused, K15Track, K15Dwell, K15Exit}
@@ -149,12 +150,12 @@ met-15 v =
     let t : Object = PreemptTrackPhase in
     let d : Object = PreemptDwellPhase in
     let x : Object = PreemptExitPhase in
-    let all : (ℕ → Bool) → Bool = λ f. list_all f (run_from 1 4) in
+    let all : (ℕ → Bool) → Bool = λ f. list_all f (run_from 1 PREEMPTS) in
     and-both (none-preempt_phase plan K15TrackUnused) (and-both (none-preempt_phase plan K15DwellUnused) (and-both (none-preempt_phase plan K15ExitUnused)
     (and-both (none-preempt_phases plan K15Track) (and-both (none-preempt_phases plan K15Dwell) (none-preempt_phases plan K15Exit)))))
-    ∙ ap (λ y. all (u t) && (all (u d) && (all (u x) && (all (a t) && y)))) (both-are (a d) (a x) (λ m. a d m && a x m) (λ m. refl) (run_from 1 4))
-    ∙ ap (λ y. all (u t) && (all (u d) && (all (u x) && y))) (both-are (a t) (λ m. a d m && a x m) (λ m. a t m && (a d m && a x m)) (λ m. refl) (run_from 1 4))
-    ∙ ap (λ y. all (u t) && (all (u d) && y)) (both-are (u x) (λ m. a t m && (a d m && a x m)) (λ m. u x m && (a t m && (a d m && a x m))) (λ m. refl) (run_from 1 4))
-    ∙ ap (λ y. all (u t) && y) (both-are (u d) (λ m. u x m && (a t m && (a d m && a x m))) (λ m. u d m && (u x m && (a t m && (a d m && a x m)))) (λ m. refl) (run_from 1 4))
+    ∙ ap (λ y. all (u t) && (all (u d) && (all (u x) && (all (a t) && y)))) (both-are (a d) (a x) (λ m. a d m && a x m) (λ m. refl) (run_from 1 PREEMPTS))
+    ∙ ap (λ y. all (u t) && (all (u d) && (all (u x) && y))) (both-are (a t) (λ m. a d m && a x m) (λ m. a t m && (a d m && a x m)) (λ m. refl) (run_from 1 PREEMPTS))
+    ∙ ap (λ y. all (u t) && (all (u d) && y)) (both-are (u x) (λ m. a t m && (a d m && a x m)) (λ m. u x m && (a t m && (a d m && a x m))) (λ m. refl) (run_from 1 PREEMPTS))
+    ∙ ap (λ y. all (u t) && y) (both-are (u d) (λ m. u x m && (a t m && (a d m && a x m))) (λ m. u d m && (u x m && (a t m && (a d m && a x m)))) (λ m. refl) (run_from 1 PREEMPTS))
     ∙ both-are (u t) (λ m. u d m && (u x m && (a t m && (a d m && a x m)))) (has_concurrent_lists plan)
-    (λ m. paired (u t m) (u d m) (u x m) (a t m) (a d m) (a x m) ∙ and-both (list-met v t m) (and-both (list-met v d m) (list-met v x m))) (run_from 1 4)
+    (λ m. paired (u t m) (u d m) (u x m) (a t m) (a d m) (a x m) ∙ and-both (list-met v t m) (and-both (list-met v d m) (list-met v x m))) (run_from 1 PREEMPTS)

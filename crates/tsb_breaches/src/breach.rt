@@ -193,7 +193,7 @@ fn of_pedestrian_detector(plan: &Plan, fault: RuleFault, detector: PedestrianDet
     }
 }
 
-/// Whether it is there at the overlap.
+/// Whether the overlap has it.
 fn of_overlap(plan: &Plan, fault: RuleFault, overlap: Overlap) -> bool
     ensures { result ≡ of_overlap (plan_of plan.now) fault overlap }
 {

@@ -2,6 +2,7 @@
 #![tactic(auto, unfolding(tsb_plan::specs::PlanOf::plan_of))]
 
 ghost use Rattle.std.specs.Prelude.{◌≡◌, ◌&&◌, true};
+ghost use Rattle.tsb_types.specs.declared.limits.TheConstants.{PREEMPTS};
 ghost use Rattle.tsb_plan.specs.Objects.{has_index, indices};
 ghost use Rattle.tsb_plan.specs.PlanOf.{plan_of};
 ghost use Rattle.tsb_types.specs.Sets.{names};
@@ -50,8 +51,7 @@ pub(crate) fn button_calls_no_walk(plan: &Plan, detector: PedestrianDetector) ->
 
 /// Whether the list of the object at the index names the phase.
 fn is_listed(plan: &Plan, object: Object, index: u32, phase: Phase) -> bool
-    requires index { has_index object index ≡ true }
-    requires four { indices object ≡ 4 }
+    requires { has_index object index ≡ true }
     ensures { result ≡ names ((plan_of plan.now).value object index) phase }
 {
     PhaseSet::from_list(plan.at(object, index) as u16).contains(phase)
@@ -59,8 +59,7 @@ fn is_listed(plan: &Plan, object: Object, index: u32, phase: Phase) -> bool
 
 /// Whether the list of the object at the index names the phase, which is not enabled.
 pub(crate) fn lists_unused(plan: &Plan, object: Object, index: u32, phase: Phase) -> bool
-    requires index { has_index object index ≡ true }
-    requires four { indices object ≡ 4 }
+    requires { has_index object index ≡ true }
     ensures { result ≡ lists_unused (plan_of plan.now) object index phase }
 {
     is_listed(plan, object, index, phase) && !plan.is_enabled(phase)
@@ -68,7 +67,7 @@ pub(crate) fn lists_unused(plan: &Plan, object: Object, index: u32, phase: Phase
 
 /// Whether the list of the object for the preempt names the phase, which is enabled.
 fn lists_used(plan: &Plan, object: Object, preempt: Preempt, phase: Phase) -> bool
-    requires four { indices object ≡ 4 }
+    requires { indices object ≡ PREEMPTS }
     ensures { result ≡ lists_used (plan_of plan.now) object preempt phase }
 {
     is_listed(plan, object, u32::from(preempt.number()), phase) && plan.is_enabled(phase)
@@ -89,7 +88,7 @@ pub(crate) fn lists_apart(
     phase: Phase,
     other: Phase,
 ) -> bool
-    requires four { indices object ≡ 4 }
+    requires { indices object ≡ PREEMPTS }
     ensures { result ≡ lists_apart (plan_of plan.now) object preempt phase other }
 {
     phase.number() < other.number()
@@ -100,7 +99,7 @@ pub(crate) fn lists_apart(
 
 /// Whether the preempt has no dwell phases, and its list of the object is not empty.
 pub(crate) fn has_no_dwell(plan: &Plan, object: Object, preempt: Preempt) -> bool
-    requires four { indices object ≡ 4 }
+    requires { indices object ≡ PREEMPTS }
     ensures { result ≡ has_no_dwell (plan_of plan.now) object preempt }
 {
     let index = u32::from(preempt.number());

@@ -3,7 +3,16 @@ use Rattle.std.proofs.Common.{zero, suc, ◌≡◌, ◌≢◌, ℕ, ◌+◌, ◌
 use Rattle.std.proofs.lemmas.Bool.{cases_eq}
 use Rattle.std.proofs.lemmas.List.Sums.{sum_by-cons}
 use Rattle.tsb_objects.specs.tsb_types.Lists.{run_from}
+use Rattle.tsb_objects.specs.tsb_types.declared.limits.TheConstants.{VEHICLE_DETECTORS}
+use Rattle.tsb_objects.specs.tsb_plan.PlanOf.{plan_of}
+use Rattle.tsb_objects.specs.declared.checked.Checked.{Checked}
+use Rattle.tsb_objects.specs.Checked.{checked_plan}
 use Rattle.tsb_calls.specs.Layer.{counted_to}
+
+-- a checked plan has all vehicle detectors
+pub all-detectors : (plan : Checked) → (checked_plan plan).counts.vehicle_detectors ≡ VEHICLE_DETECTORS
+unfolding checked_plan plan_of
+all-detectors plan = refl
 
 abbrev one : (ℕ → Bool) → ℕ → ℕ
 one test d = if test d then 1 else 0

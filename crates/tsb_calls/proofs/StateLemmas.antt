@@ -70,7 +70,7 @@ module _ (m : Memories) (ranged : AreInRange m) where
   list-at k below = front-read lists (map m.count (run_from 1 16)) k below
 
   count-at : (p : ℕ) → 1 ≤ p → p ≤ 16 → slice_index (memories_cells m) (1 + p) ≡ m.count p
-  count-at p from to = column-read 2 lists m.count p refl (omega arith) from to
+  count-at p from to = column-read 16 2 lists m.count p refl (omega arith) from to
 
   read-alike : AreAlike (memories_in (memories_cells m)) m
   read-alike = record {
@@ -83,7 +83,7 @@ module _ (m : Memories) (ranged : AreInRange m) where
   calls-read = record {
     same = whole-same (memories_in (memories_cells m)) m read-alike (off-read (memories_cells m)) ranged.others;
     by = record {
-      full = length-column lists m.count;
+      full = length-column 16 lists m.count;
       vehicle = subst (λ (n : ℕ). n < 65536) (sym (list-at 0 (omega arith))) (list_of-below 16 m.vehicle);
       pedestrian = subst (λ (n : ℕ). n < 65536) (sym (list-at 1 (omega arith))) (list_of-below 16 m.pedestrian);
       counts = λ p from to. subst (λ (n : ℕ). n ≤ 255) (sym (count-at p from to)) (ranged.counts p from to);

@@ -5,6 +5,7 @@ ghost use Rattle.tsb_objects.specs.Checked.{checked_plan};
 ghost use Rattle.tsb_calls.specs.Memories.{Memories, has_output, vehicle_memory, pedestrian_memory};
 ghost use Rattle.tsb_calls.specs.Promises.{given_of};
 
+use crate::called_by::walks_called_by;
 use crate::observed::Observed;
 use crate::recalls::with_pedestrians;
 use tsb_objects::{Checked, PhaseSet};
@@ -38,7 +39,7 @@ pub(crate) fn pedestrian_memories(plan: &Checked, observed: &Observed, old: Phas
     ensures { (m : Memories) → (p : ℕ) → 1 ≤ p → p ≤ 16 → has old p ≡ m.pedestrian p →
         has result p ≡ pedestrian_memory (checked_plan plan.now) (given_of observed.now) m p }
 {
-    let called = plan.walks_called_by(observed.buttons);
+    let called = walks_called_by(plan, observed.buttons);
     let pressed = called.intersection(with_pedestrians(plan));
     old.union(pressed.difference(observed.pedestrians.walk))
 }

@@ -11,7 +11,7 @@ use Rattle.tsb_plan.specs.Plan.{Plan, phases, is_concurrent, is_enabled, walk}
 -- ## Channels
 
 -- what a channel shows: its type, 2 vehicles of a phase, 3 pedestrians of a phase, 4 an overlap, and its source
-pub record Channel : Type 0 where
+pub record Control : Type 0 where
   pub kind : ℕ
   pub source : ℕ
 
@@ -21,25 +21,25 @@ names_none plan =
     list_all (λ c. plan.value ChannelControlType c == 0 && plan.value ChannelControlSource c == 0) (run_from 1 16)
 
 -- channels 1 to 8 are those phases, 9 to 12 overlaps 1 to 4, 13 to 16 the crosswalks of phases 2, 4, 6 and 8
-abbrev pub usual : ℕ → Channel
+abbrev pub usual : ℕ → Control
 usual c =
     if nat_le c 8 then record { kind = 2; source = c } else
     (if nat_le c 12 then record { kind = 4; source = c - 8 } else record { kind = 3; source = 2 * (c - 12) })
 
 -- channel c of a plan
-abbrev pub channel : Plan → ℕ → Channel
+abbrev pub channel : Plan → ℕ → Control
 channel plan c =
     if names_none plan then usual c
     else record { kind = plan.value ChannelControlType c; source = plan.value ChannelControlSource c }
 
--- ## The phases by one of which a channel is lit
+-- ## The phases that light a channel, each by itself
 
 -- an overlap: those that it includes, and the turn of an arrow
 abbrev pub lights_overlap : Plan → ℕ → ℕ → Bool
 lights_overlap plan o p = is_included plan o p || (is_arrow plan o && is_modifier plan o p)
 
 -- a channel: an enabled phase, an enabled phase with a walk, or those of an overlap that there is
-abbrev pub lights : Plan → Channel → ℕ → Bool
+abbrev pub lights : Plan → Control → ℕ → Bool
 lights plan x p =
     if x.kind == 2 then x.source == p && is_enabled plan p else
     (if x.kind == 3 then x.source == p && (is_enabled plan p && not (walk plan p == 0)) else
@@ -52,7 +52,7 @@ abbrev pub agree : Plan → ℕ → ℕ → Bool
 agree plan p q = p == q || is_concurrent plan p q
 
 -- phase p lights one channel, and one that agrees with it the other
-abbrev pub meets : Plan → Channel → Channel → ℕ → Bool
+abbrev pub meets : Plan → Control → Control → ℕ → Bool
 meets plan x y p = lights plan x p && list_any (λ q. lights plan y q && agree plan p q) (phases plan)
 
 -- channels a and b have to be permissive

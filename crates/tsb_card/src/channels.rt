@@ -18,7 +18,7 @@ const OVERLAP: u32 = 4;
 
 /// What a channel shows: its type and its source.
 #[derive(Clone, Copy, PartialEq, Eq)]
-struct Channel {
+struct Control {
     /// The type, 0 for none.
     kind: u32,
     /// The phase or overlap, 0 for none.
@@ -39,20 +39,20 @@ fn names_none(plan: &Plan) -> bool {
 }
 
 /// What a channel usually shows: 1 to 8 those phases, 9 to 12 overlaps 1 to 4, 13 to 16 the crosswalks of 2, 4, 6 and 8.
-fn usual(channel: u8) -> Channel {
+fn usual(channel: u8) -> Control {
     let number = u32::from(channel);
     if channel <= 8 {
-        Channel {
+        Control {
             kind: VEHICLE,
             source: number,
         }
     } else if channel <= 12 {
-        Channel {
+        Control {
             kind: OVERLAP,
             source: number - 8,
         }
     } else {
-        Channel {
+        Control {
             kind: PEDESTRIAN,
             source: 2 * (number - 12),
         }
@@ -60,18 +60,18 @@ fn usual(channel: u8) -> Channel {
 }
 
 /// What a channel of a plan shows: what is usual, where the plan names no channel.
-fn channel_of(plan: &Plan, is_usual: bool, channel: u8) -> Channel {
+fn channel_of(plan: &Plan, is_usual: bool, channel: u8) -> Control {
     if is_usual {
         return usual(channel);
     }
     let index = u32::from(channel);
-    Channel {
+    Control {
         kind: plan.at(Object::ChannelControlType, index),
         source: plan.at(Object::ChannelControlSource, index),
     }
 }
 
-/// The phases of an overlap by one of which it is lit: those that it includes, and the turn of an arrow.
+/// The phases that light an overlap, each by itself: those that it includes, and the turn of an arrow.
 fn lighting(plan: &Plan, overlap: Overlap) -> PhaseSet {
     let included = plan.included_phases(overlap);
     if plan.is_arrow(overlap) {
@@ -99,8 +99,8 @@ fn only_walking(plan: &Plan, phase: Phase) -> PhaseSet {
     }
 }
 
-/// The phases by one of which a channel is lit: none where it is never lit.
-fn phases_of(plan: &Plan, channel: &Channel) -> PhaseSet {
+/// The phases that light a channel, each by itself: none where it is never lit.
+fn phases_of(plan: &Plan, channel: &Control) -> PhaseSet {
     if channel.kind == OVERLAP {
         return match Overlap::new(channel.source) {
             None => PhaseSet::empty(),

@@ -35,7 +35,7 @@ pub fn write_card<W: Write>(card: &Card, output: &mut Watched<W>) -> Result<(), 
 }
 
 /// Writes what a card has otherwise than it should: a line for each pair that is permissive and should not be, and for each
-/// that should be and is not. It tells whether there is any.
+/// that should be and is not. Gives whether there is any.
 pub fn write_differences<W: Write>(
     wanted: &Card,
     found: &Card,

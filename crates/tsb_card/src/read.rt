@@ -32,7 +32,11 @@ fn pair(line: &[u8]) -> Option<(u8, u8)> {
     }
     let one = channel(&line[..at])?;
     let other = channel(&line[at + 1..])?;
-    if one < other { Some((one, other)) } else { None }
+    if one < other {
+        Some((one, other))
+    } else {
+        None
+    }
 }
 
 /// The card of a text: a pair a line. Lines that are blank or begin with `#` are skipped.

@@ -1,6 +1,7 @@
 -- Small numbers, and lamps of heads, as commands write them.
 use Rattle.std.specs.Prelude.{ℕ, ◌==◌, ◌&&◌, nat_le, List, [], ◌∷◌, if◌then◌else◌, Option, Some, None, option_map, codes, bytes_eq}
 use Rattle.tsb_lines.specs.Words.{number_of}
+use Rattle.tsb_types.specs.declared.limits.TheConstants.{OVERLAPS, VEHICLE_DETECTORS}
 use Rattle.tsb_types.specs.declared.lamp.Lamp.{Lamp}
 use Rattle.tsb_types.specs.declared.lamp.Lamp.TheVariants as lamps
 use Rattle.tsb_types.specs.declared.lamp.SignalColor.{SignalColor}
@@ -17,9 +18,9 @@ from_one_to most (Some n) = if nat_le 1 n && nat_le n most then Some n else None
 abbrev pub phase_of : List ℕ → Option ℕ
 phase_of w = from_one_to 16 (number_of w)
 
--- a vehicle detector, 1 to 16
+-- a vehicle detector
 abbrev pub detector_of : List ℕ → Option ℕ
-detector_of w = from_one_to 16 (number_of w)
+detector_of w = from_one_to VEHICLE_DETECTORS (number_of w)
 
 -- a station that shares the desk, 1 to 4
 abbrev pub station_of : List ℕ → Option ℕ
@@ -61,5 +62,5 @@ abbrev pub lamp_of : List ℕ → List ℕ → Option Lamp
 lamp_of [] aspect = None
 lamp_of (letter ∷ digits) aspect =
     if letter == 80 then with_both lamps.Phase (from_one_to 16 (head_number digits)) (signal_of aspect) else
-    if letter == 79 then overlap_lamp (from_one_to 4 (head_number digits)) aspect else
+    if letter == 79 then overlap_lamp (from_one_to OVERLAPS (head_number digits)) aspect else
     if letter == 87 then with_both lamps.Pedestrian (from_one_to 16 (head_number digits)) (pedestrian_signal_of aspect) else None

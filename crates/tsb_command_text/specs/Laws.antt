@@ -1,6 +1,6 @@
 -- What holds of lines of a live session, in words that do not retrace how they are read. Each law here is the contract
 -- of a function in src/laws.rt.
-use Rattle.std.specs.Prelude.{◌≡◌, ◌↔◌, ℕ, ◌<◌, ◌≤◌, List, ◌∷◌, ◌++◌, length, codes, Some, None}
+use Rattle.std.specs.Prelude.{◌≡◌, ◌↔◌, ℕ, ◌<◌, ◌≤◌, List, ◌∷◌, ◌++◌, length, codes, Some, None, Bool}
 use Rattle.tsb_lines.specs.Lines.{kept, without_return}
 use Rattle.tsb_lines.specs.Words.{words_of}
 use Rattle.tsb_command_text.specs.Readings.{reading}
@@ -14,7 +14,7 @@ use Rattle.tsb_log_text.specs.declared.form.RowForm.{RowForm}
 use Rattle.tsb_command_text.specs.LiveCommands.{live_command_in}
 use Rattle.tsb_command_text.specs.LiveReadings.{live_reading}
 use Rattle.tsb_command_text.specs.declared.live_command.LiveCommand.{LiveCommand}
-use Rattle.tsb_command_text.specs.declared.live_command.LiveCommand.TheVariants.{Session, Changes}
+use Rattle.tsb_command_text.specs.declared.live_command.LiveCommand.TheVariants.{Session, Changes, Lines}
 use Rattle.tsb_command_text.specs.declared.live_command.LiveReading.TheVariants.{Skip, Bad, Tick, Ask}
 
 -- a line of at most 200 bytes is a row exactly where it is a row of a log, in one of its forms, once a tick of 7 digits and
@@ -35,9 +35,13 @@ SkipTheSame = (line : List ℕ) → ((live_reading line ≡ Skip) ↔ (reading l
 abbrev pub AreNoCommands : Type 0
 AreNoCommands = (line : List ℕ) (r : Row) → live_reading line ≡ Tick r → (reading line ≡ session.Bad) × (live_command_in (words_of line) ≡ None)
 
+-- wide or narrow lines are asked for exactly where they are there
+abbrev pub LayOutTheSame : Type 0
+LayOutTheSame = (line : List ℕ) (is_wide : Bool) → ((live_reading line ≡ Ask (Lines is_wide)) ↔ (reading line ≡ session.Lines is_wide))
+
 -- a command that is asked live alone is none of `tsb run`
 abbrev pub AreNew : Type 0
-AreNew = (line : List ℕ) (c : LiveCommand) → live_reading line ≡ Ask c → ((s : Command) → c ≡ Session s → ⊥) → reading line ≡ session.Bad
+AreNew = (line : List ℕ) (c : LiveCommand) → live_reading line ≡ Ask c → ((s : Command) → c ≡ Session s → ⊥) → ((is_wide : Bool) → c ≡ Lines is_wide → ⊥) → reading line ≡ session.Bad
 
 -- `changes` takes a number exactly where `step` does. Its word is 3 bytes longer, so lines of up to 200 bytes have 192
 -- for what follows it.

@@ -1,5 +1,5 @@
 //! What holds of all lines of a live session, each law the contract of a function that does nothing.
-ghost use Rattle.tsb_command_text.specs.Laws.{AreBadWhereLong, AreNew, AreNoCommands, AreRowsOfLogs, AskByTheirFirstBytes, AskTheSame, SkipTheSame, TakeTheSameNumber};
+ghost use Rattle.tsb_command_text.specs.Laws.{AreBadWhereLong, AreNew, AreNoCommands, AreRowsOfLogs, AskByTheirFirstBytes, AskTheSame, LayOutTheSame, SkipTheSame, TakeTheSameNumber};
 
 /// A line is a row exactly where it is a row of a log after a tick, with the same inputs. So no space may come before
 /// it or after it.
@@ -11,8 +11,8 @@ pub fn rows_are_rows_of_logs()
     ensures { AreRowsOfLogs }
 {}
 
-/// A line asks for a command of `tsb run` exactly where `tsb run` reads that command in it. A line is skipped exactly
-/// where it is skipped there.
+/// A line asks for a command of `tsb run` exactly where `tsb run` reads that command in it. So it is with `lines wide`
+/// and `lines narrow`. A line is skipped exactly where it is skipped there.
 ///
 /// Not said: what the commands do.
 /// Mistakes: a line may have 250 bytes, `reading_to_250` (`is_bad_there`, `would_be_asked`); comments may have spaces
@@ -20,6 +20,7 @@ pub fn rows_are_rows_of_logs()
 /// Witness: `asks_show`, `reads_show`, `skips_a_comment`, `is_skipped_there` of Mistakes.
 pub fn commands_of_sessions_are_kept()
     ensures commands { AskTheSame }
+    ensures layouts { LayOutTheSame }
     ensures skipped { SkipTheSame }
 {}
 
@@ -32,7 +33,8 @@ pub fn rows_are_no_commands()
     ensures { AreNoCommands }
 {}
 
-/// What is asked live alone is a bad command to `tsb run`. So the words of `tsb run` stay as they are.
+/// What is asked live alone is a bad command to `tsb run`. So the words of `tsb run` stay as they are. Layouts of lines
+/// are asked there too.
 ///
 /// Mistake: `step` prints the lines that differ, and `changes` is no word, `reading_step_as_changes` (`reads_step`,
 /// `would_be_changes`).

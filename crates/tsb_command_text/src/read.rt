@@ -55,11 +55,9 @@ pub(crate) fn lines_by(name: &[u8], word: &[u8]) -> Option<bool>
     if !is(name, b"lines") {
         return None;
     }
-    if is(word, b"wide") {
-        return Some(true);
-    }
-    if is(word, b"narrow") {
-        return Some(false);
+    let is_wide = is(word, b"wide");
+    if is_wide || is(word, b"narrow") {
+        return Some(is_wide);
     }
     None
 }

@@ -1,6 +1,7 @@
 -- What ends the greens that a tick ends, by what the layers give of it.
-use Rattle.std.proofs.Common.{◌≡◌, ◌≢◌, ℕ, ◌≤◌, Bool, true, false, not, ◌&&◌, ◌||◌, if◌then◌else◌, List, Option, Some, None, IfSome, is_none, refl, ap, ◌∙◌, inl, inr, slice_index}
+use Rattle.std.proofs.Common.{◌≡◌, ◌≢◌, ℕ, ◌+◌, ◌≤◌, Bool, true, false, not, ◌&&◌, ◌||◌, if◌then◌else◌, List, Option, Some, None, IfSome, is_none, refl, ap, ◌∙◌, inl, inr, slice_index}
 use Rattle.std.proofs.lemmas.Bool.Decides.{eqb_tells}
+use Rattle.tsb_step.specs.tsb_types.declared.limits.TheConstants.{PREEMPTS}
 use Rattle.tsb_step.specs.tsb_types.declared.flow.Intervals.{Intervals}
 use Rattle.tsb_step.specs.tsb_types.declared.row.Row.{Row}
 use Rattle.tsb_step.specs.tsb_types.Intervals.{is_green}
@@ -75,12 +76,12 @@ module _ (c : Cause) (ended rest left : ℕ → Bool) (found : ℕ → Option Ca
 
 -- ## Whether the preempt in service has been served
 
--- a preempt in service is one of four, so that its input is that of the row
+-- a preempt in service is one that there is, so that its input is that of the row
 pub served-alike : (plan : Plan) (row : Row) (i : Intervals) (s : State) (now : ℕ) (cells : List ℕ) → preempts_in now cells ≡ s.preempts →
     has_been_served plan (given_by row i) (as_read (preempts_in now cells)) ≡ has_been_served plan (preempts_given s row) (preempts_read s)
 unfolding preempts_in service_in
 served-alike plan row i s now cells same =
-    of (as_read (preempts_in now cells)).service (here (is_preempt (slice_index cells 6)) refl)
+    of (as_read (preempts_in now cells)).service (here (is_preempt (slice_index cells (2 + PREEMPTS))) refl)
     ∙ ap (λ (x : Preempts). has_been_served plan (preempts_given s row) (as_read x)) same
   where
     of : (o : Option Service) → IfSome o (λ x. is_preempt x.preempt ≡ true) →
@@ -88,11 +89,11 @@ served-alike plan row i s now cells same =
     of None one = refl
     of (Some x) one = rw one refl
 
-    here : (b : Bool) → is_preempt (slice_index cells 6) ≡ b → IfSome (service_as_read (if b then Some (record {
-      preempt = slice_index cells 6;
-      stage = stage_in (slice_index cells 7);
-      timer = timer_at now (slice_index cells 8);
-      stage_timer = timer_at now (slice_index cells 9);
+    here : (b : Bool) → is_preempt (slice_index cells (2 + PREEMPTS)) ≡ b → IfSome (service_as_read (if b then Some (record {
+      preempt = slice_index cells (2 + PREEMPTS);
+      stage = stage_in (slice_index cells (3 + PREEMPTS));
+      timer = timer_at now (slice_index cells (4 + PREEMPTS));
+      stage_timer = timer_at now (slice_index cells (5 + PREEMPTS));
     }) else None)) (λ x. is_preempt x.preempt ≡ true)
     here true e = e
     here false e = tt

@@ -9,6 +9,7 @@ use Rattle.tsb_step.proofs.tsb_types.ClipLemmas.{among_16}
 use Rattle.tsb_step.specs.tsb_plan.Plan.{Plan}
 use Rattle.tsb_detect.specs.Detector as detector
 use Rattle.tsb_detect.specs.Detector.{Detector, is_detector}
+use Rattle.tsb_detect.proofs.StateLemmas.{among-detectors}
 use Rattle.tsb_detect.specs.Cells.{detector_in}
 use Rattle.tsb_detect.specs.Promises as detect
 use Rattle.tsb_calls.specs.Memories as memories_words
@@ -39,7 +40,7 @@ use Rattle.tsb_phase.proofs.StateLemmas.{outside as at-rest}
 pub detectors-start : (now : ℕ) (new : List ℕ) → detect.IsAtPowerUp now new → detector_in now new ≡ (λ d. detector.at_power_up)
 unfolding detector_in
 detectors-start now new done = fun_ext (λ d. elim (cases_Bool (is_detector d)) [
-  | inl on ↦ done d (among_16 d on).from (among_16 d on).to
+  | inl on ↦ done d (among-detectors d on).from (among-detectors d on).to
   | inr out ↦ rw out refl
 ])
 
@@ -103,7 +104,7 @@ preempts-reset now m old new done by by_new =
     (λ n out. record { switch = (off-by now old by n out).switch; delay = refl; spent = refl })
     ∙ after-any now m old
 
--- only one of the four is switched
+-- only a preempt is switched
 pub switched-one : (plan : Plan) (n : ℕ) (on : Bool) → switch_refusal plan n on ≡ None → is_preempt n ≡ true
 switched-one plan n on allowed = go (is_preempt n) (not on || has_dwell plan n) refl allowed
   where

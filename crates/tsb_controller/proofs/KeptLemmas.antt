@@ -143,15 +143,15 @@ module _ (now : ℕ) (plan : Plan) (desk : Desk) (lamp : Option Lamp) (row : Row
   pub memories_now : memories_in r.calls ≡ tick.set s row
   memories_now = ap (λ (x : State). x.memories) here ∙ unmoved s.memories
 
-  module _ (calm : NoneRose now r) where
+  module _ (placed : IsPlaced plan) (calm : NoneRose now r) where
     none_actuated : (p : ℕ) → actuations plan given p ≡ 0
     unfolding actuations
     none_actuated p =
-        count-same (λ d. calls_phase plan d p && given.actuated d) (λ d. false) 1 16 (λ d from to. ap (λ (b : Bool). calls_phase plan d p && b) (rose d from (omega (arith, to))) ∙ and-false (calls_phase plan d p))
-        ∙ count-none (λ d. false) 1 16 (λ d. refl)
+        count-same (λ d. calls_phase plan d p && given.actuated d) (λ d. false) 1 plan.counts.vehicle_detectors (λ d from to. ap (λ (b : Bool). calls_phase plan d p && b) (rose d from (omega (arith, to))) ∙ and-false (calls_phase plan d p))
+        ∙ count-none (λ d. false) 1 plan.counts.vehicle_detectors (λ d. refl)
       where
-        rose : (d : ℕ) → 1 ≤ d → d ≤ 16 → given.actuated d ≡ false
-        rose d from to = ap (λ (f : ℕ → Detector). (f d).actuated) (sym detectors_now) ∙ calm d from to
+        rose : (d : ℕ) → 1 ≤ d → d ≤ plan.counts.vehicle_detectors → given.actuated d ≡ false
+        rose d from to = ap (λ (f : ℕ → Detector). (f d).actuated) (sym detectors_now) ∙ calm d from (omega (arith, to, placed.detectors))
 
     -- what was set once is set
     pub set_twice : (w : Memories) → as_set plan given (as_set plan given w) ≡ as_set plan given w
@@ -179,10 +179,10 @@ module _ (now : ℕ) (plan : Plan) (desk : Desk) (lamp : Option Lamp) (row : Row
     abbrev told : Given
     told = calls.given_of (observed row sensed)
 
-    pub calls_alike : calls_looks.AgreeOnPhases told given
+    pub calls_alike : calls_looks.AgreeOnPhases plan told given
     calls_alike = record {
-      output = λ d from to. seen.outputs_are now d from to ∙ ap (λ (f : ℕ → Detector). (f d).output) detectors_now;
-      actuated = λ d from to. seen.actuated_are now d from to ∙ ap (λ (f : ℕ → Detector). (f d).actuated) detectors_now;
+      output = λ d from to. seen.outputs_are now d from (omega (arith, to, placed.detectors)) ∙ ap (λ (f : ℕ → Detector). (f d).output) detectors_now;
+      actuated = λ d from to. seen.actuated_are now d from (omega (arith, to, placed.detectors)) ∙ ap (λ (f : ℕ → Detector). (f d).actuated) detectors_now;
       button = λ d from to. refl;
       interval = λ p from to. seen.shown (now - 1) p from to;
       pedestrian_part = λ p from to. seen.walking (now - 1) p from to;
@@ -198,7 +198,7 @@ module _ (now : ℕ) (plan : Plan) (desk : Desk) (lamp : Option Lamp) (row : Row
       -- the memories as they are now are those that are set
       pub as_sets : calls_looks.AreAlike (as_set plan told (memories_in r.calls)) (memories_in r.calls)
       as_sets =
-          subst (calls_looks.AreAlike (as_set plan told (memories_in r.calls))) (stands calm)
+          subst (calls_looks.AreAlike (as_set plan told (memories_in r.calls))) (stands placed calm)
           (look.sets (memories_in r.calls) (memories_in r.calls) (alike-own (memories_in r.calls)))
 
       pub sets : calls.IsSet (observed row sensed) plan r.calls r.calls
@@ -225,7 +225,7 @@ module _ (now : ℕ) (plan : Plan) (desk : Desk) (lamp : Option Lamp) (row : Row
             count = λ q low high. (sets q low high).count;
           }
 
-          own : calls_looks.AgreeOnPhases told told
+          own : calls_looks.AgreeOnPhases plan told told
           own = record {
             output = λ d low high. refl;
             actuated = λ d low high. refl;

@@ -5,6 +5,7 @@ use Rattle.std.proofs.lemmas.Bool.{cases_Bool, and_parts, true≢false}
 use Rattle.tsb_cells.specs.declared.timer.Timer.TheVariants.{Off, On}
 use Rattle.tsb_cells.specs.Timer.{timer_at}
 use Rattle.tsb_cells.proofs.TimerLemmas.{timer_at-on}
+use Rattle.tsb_step.specs.tsb_types.declared.limits.TheConstants.{PREEMPTS}
 use Rattle.tsb_step.specs.tsb_types.declared.flow.Timing.{Timing}
 use Rattle.tsb_step.specs.tsb_types.declared.interval.Interval.{Interval}
 use Rattle.tsb_step.specs.tsb_types.declared.interval.Interval.TheVariants.{Red, Green, Yellow, RedClear}
@@ -73,14 +74,14 @@ number_of o = option_map (λ (x : Service). x.preempt) o
 
 pub number-at : (m n : ℕ) (cells : List ℕ) → number_of (preempts_in m cells).service ≡ number_of (preempts_in n cells).service
 unfolding preempts_in service_in
-number-at m n cells = elim (cases_Bool (is_preempt (slice_index cells 6))) [
+number-at m n cells = elim (cases_Bool (is_preempt (slice_index cells (2 + PREEMPTS)))) [
   | inl on ↦ rw on refl
   | inr out ↦ rw out refl
 ]
 
 pub wanted-at : (m n : ℕ) (plan : Plan) (cells : List ℕ) → wanted_by plan (preempts_in m cells).service ≡ wanted_by plan (preempts_in n cells).service
 unfolding preempts_in service_in
-wanted-at m n plan cells = elim (cases_Bool (is_preempt (slice_index cells 6))) [
+wanted-at m n plan cells = elim (cases_Bool (is_preempt (slice_index cells (2 + PREEMPTS)))) [
   | inl on ↦ rw on refl
   | inr out ↦ rw out refl
 ]
@@ -88,7 +89,7 @@ wanted-at m n plan cells = elim (cases_Bool (is_preempt (slice_index cells 6))) 
 -- service that is in the row before and after a tick did not end
 pub not-ended : (m n : ℕ) (cells : List ℕ) → (is_some (service_as_read (preempts_in m cells).service) && is_none (preempts_in n cells).service) ≡ false
 unfolding preempts_in service_in
-not-ended m n cells = elim (cases_Bool (is_preempt (slice_index cells 6))) [
+not-ended m n cells = elim (cases_Bool (is_preempt (slice_index cells (2 + PREEMPTS)))) [
   | inl on ↦ rw on refl
   | inr out ↦ rw out refl
 ]

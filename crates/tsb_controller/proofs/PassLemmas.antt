@@ -6,6 +6,7 @@ use Rattle.std.proofs.lemmas.Bool.{cases_Bool}
 use Rattle.std.proofs.lemmas.Bool.Decides.{nat_tests}
 use Rattle.tsb_cells.specs.declared.timer.Timer.{Timer}
 use Rattle.tsb_cells.specs.declared.timer.Timer.TheVariants.{Off}
+use Rattle.tsb_step.specs.tsb_types.declared.limits.TheConstants.{PREEMPTS}
 use Rattle.tsb_step.specs.tsb_types.declared.flow.Called.{Called}
 use Rattle.tsb_step.specs.tsb_types.declared.flow.Moves.{Moves}
 use Rattle.tsb_step.specs.tsb_types.declared.flow.Orders.{Orders}
@@ -17,7 +18,7 @@ use Rattle.tsb_step.specs.tsb_types.Clip.{Agree, clipped, within}
 use Rattle.tsb_step.specs.tsb_types.Flow.{interval_of}
 use Rattle.tsb_step.specs.tsb_types.Intervals.{is_green}
 use Rattle.tsb_step.specs.tsb_types.Lists.{run_from}
-use Rattle.tsb_step.specs.tsb_types.Sets.{has, has_number, is_phase}
+use Rattle.tsb_step.specs.tsb_types.Sets.{has, has_detector, has_number, is_phase}
 use Rattle.tsb_step.proofs.tsb_types.ClipLemmas.{among_16, clipped-agrees, clipped-same, within-agrees}
 use Rattle.tsb_step.specs.tsb_plan.Plan.{Plan}
 use Rattle.tsb_step.specs.tsb_plan.Parts.{call_phase, is_anew}
@@ -95,17 +96,17 @@ none-rose now t row plan r soon behind sooner o d from to = actuated-at now t r.
     green : ℕ → Timer
     green e = of_called (detect.green_timer t o.greens) (call_phase plan e)
 
-    all : detector_in t r.detectors ≡ all_after plan t (has_number row.vehicles) green (detector_in (t - 1) r.detectors)
+    all : detector_in t r.detectors ≡ all_after plan t (has_detector row.vehicles) green (detector_in (t - 1) r.detectors)
     all = ticks-all t row o.greens plan r.detectors r.detectors (o.detectors t o.greens behind sooner)
 
-    stays_on : (all_after plan t (has_number row.vehicles) green (detector_in (t - 1) r.detectors) d).output ≡ (detector_in (t - 1) r.detectors d).output
+    stays_on : (all_after plan t (has_detector row.vehicles) green (detector_in (t - 1) r.detectors) d).output ≡ (detector_in (t - 1) r.detectors d).output
     stays_on = ap (λ (f : ℕ → Detector). (f d).output) (sym all) ∙ output-at t (t - 1) r.detectors d
 
-    rises : (all_after plan t (has_number row.vehicles) green (detector_in (t - 1) r.detectors) d).actuated ≡ false
+    rises : (all_after plan t (has_detector row.vehicles) green (detector_in (t - 1) r.detectors) d).actuated ≡ false
     rises = elim (cases_Bool (is_detector d)) [
       | inl on ↦
-          ap (λ (b : Bool). (if b then detector_next plan d t (has_number row.vehicles d) (green d) (detector_in (t - 1) r.detectors d) else at_power_up).actuated) on
-          ∙ rises-not _ (detector_in (t - 1) r.detectors d).output (sym (ap (λ (b : Bool). (if b then detector_next plan d t (has_number row.vehicles d) (green d) (detector_in (t - 1) r.detectors d) else at_power_up).output) on) ∙ stays_on)
+          ap (λ (b : Bool). (if b then detector_next plan d t (has_detector row.vehicles d) (green d) (detector_in (t - 1) r.detectors d) else at_power_up).actuated) on
+          ∙ rises-not _ (detector_in (t - 1) r.detectors d).output (sym (ap (λ (b : Bool). (if b then detector_next plan d t (has_detector row.vehicles d) (green d) (detector_in (t - 1) r.detectors d) else at_power_up).output) on) ∙ stays_on)
       | inr out ↦ rw out refl
     ]
 
@@ -154,10 +155,10 @@ module _ (now t : ℕ) (plan : Plan) (desk : Desk) (lamp : Option Lamp) (row : R
   unfolding new_detectors
   detectors_then =
       ticks-all t row o.greens plan r.detectors r.detectors (o.detectors t o.greens behind sooner)
-      ∙ same-after plan t (has_number row.vehicles) (has_number row.vehicles) (detect.green_timer t o.greens) (λ p. tick.green_timer u (Some p))
+      ∙ same-after plan t (has_detector row.vehicles) (has_detector row.vehicles) (detect.green_timer t o.greens) (λ p. tick.green_timer u (Some p))
       (detector_in (t - 1) r.detectors) (detector_in (t - 1) r.detectors)
       (λ d from to. placed.called d) (λ d from to. refl) greens-agree (λ d from to. refl)
-      ∙ ap₂ (λ (n : ℕ) (green : ℕ → Timer). all_after plan n (has_number row.vehicles) green (detector_in (t - 1) r.detectors)) t_is
+      ∙ ap₂ (λ (n : ℕ) (green : ℕ → Timer). all_after plan n (has_detector row.vehicles) green (detector_in (t - 1) r.detectors)) t_is
       (fun_ext (λ d. called-green u (call_phase plan d)))
 
   detectors_now : detector_in now r.detectors ≡ new_detectors s row
@@ -166,14 +167,14 @@ module _ (now t : ℕ) (plan : Plan) (desk : Desk) (lamp : Option Lamp) (row : R
   -- ### Preempts
 
   alike : preempt_laws.AreAlike (preempts.given_by row o.intervals) (preempts_given u row)
-  alike = record { row = λ n from to. sym (one_of_four n from to); interval = shown }
+  alike = record { row = λ n from to. sym (one_of_all n from to); interval = shown }
     where
-      one_of_four : (n : ℕ) → 1 ≤ n → n ≤ 4 → (is_preempt n && has_number row.preempts n) ≡ has_number row.preempts n
-      one_of_four n from to = let is : is_preempt n ≡ true = grind (arith, nat_tests) in rw is refl
+      one_of_all : (n : ℕ) → 1 ≤ n → n ≤ PREEMPTS → (is_preempt n && has_number row.preempts n) ≡ has_number row.preempts n
+      one_of_all n from to = let is : is_preempt n ≡ true = grind (arith, nat_tests) in rw is refl
 
   preempts_then : preempts_in t r.preempts ≡ preempts_words.next plan (preempts_given u row) (preempts_in (t - 1) r.preempts)
   preempts_then =
-      ticks-as-next t row o.intervals plan r.preempts r.preempts (preempts_given u row) placed.count alike (λ n out. rw out refl) by_before.preempts by_then.preempts
+      ticks-as-next t row o.intervals plan r.preempts r.preempts (preempts_given u row) placed.count placed.preempts alike (λ n out. rw out refl) by_before.preempts by_then.preempts
       (o.preempts t behind sooner)
 
   preempts_now : preempts_in now r.preempts ≡ preempts_words.next plan (preempts_given s row) (preempts_in (now - 1) r.preempts)
@@ -241,7 +242,7 @@ module _ (now t : ℕ) (plan : Plan) (desk : Desk) (lamp : Option Lamp) (row : R
   set_same : tick.set u row ≡ tick.set s row
   set_same =
       ap (λ (g : memories_words.Given). as_set plan g (memories_in r.calls)) calls_same
-      ∙ kept.stands now plan desk lamp row detectors calls_row r one was_by ticked calm
+      ∙ kept.stands now plan desk lamp row detectors calls_row r one was_by ticked placed calm
       ∙ kept.memories_now now plan desk lamp row detectors calls_row r one was_by ticked
 
   -- ### What phase timing is given
@@ -412,7 +413,7 @@ module _ (now t : ℕ) (plan : Plan) (desk : Desk) (lamp : Option Lamp) (row : R
 
   memories_then : memories_in r.calls ≡ settled.next plan (calls_given u row) (done u row) (memories_in r.calls)
   memories_then =
-      sym (kept.stands now plan desk lamp row detectors calls_row r one was_by ticked calm)
+      sym (kept.stands now plan desk lamp row detectors calls_row r one was_by ticked placed calm)
       ∙ sym (kept.unmoved now plan desk lamp row detectors calls_row r one was_by ticked (memories_in r.calls))
       ∙ sym (ap₂ (λ (g : memories_words.Given) (d : settled.Done). settled.next plan g d (memories_in r.calls)) calls_same done_same)
 

@@ -3,6 +3,7 @@ use Rattle.std.proofs.Common.{◌≡◌, ℕ, ◌+◌, ◌<◌, ◌≤◌, Bool,
 use Rattle.std.proofs.lemmas.Bool.{cases_Bool}
 use Rattle.std.proofs.lemmas.Bool.Decides.{nat_tests}
 use Rattle.std.specs.List.{list_any}
+use Rattle.tsb_step.specs.tsb_types.declared.limits.TheConstants.{OVERLAPS, VEHICLE_DETECTORS}
 use Rattle.tsb_step.specs.tsb_types.declared.flow.Intervals.{Intervals}
 use Rattle.tsb_step.specs.tsb_types.declared.flow.Pedestrians.{Pedestrians}
 use Rattle.tsb_step.specs.tsb_types.declared.interval.Interval.{Interval}
@@ -134,15 +135,15 @@ stage-green-same plan f g (Some x) few same =
 
 -- ## Calls
 
-module _ (plan : Plan) (count : plan.phase_count ≤ 16) (rows : Rows) (i : Intervals) (w : Pedestrians) (result : Standing)
+module _ (plan : Plan) (count : plan.phase_count ≤ 16) (few : plan.counts.vehicle_detectors ≤ VEHICLE_DETECTORS) (rows : Rows) (i : Intervals) (w : Pedestrians) (result : Standing)
     (told : TellsIntervals rows.phases i) (walking : TellsPedestrians rows.phases w) (it : IsStanding i w plan rows result) (now : ℕ) (b : Beside) (same : b.plan ≡ plan) where
   abbrev s : State
   s = state_of now b rows
 
-  alike : calls.AgreeOnPhases (given_of it.observed) (calls_now s)
+  alike : calls.AgreeOnPhases plan (given_of it.observed) (calls_now s)
   alike = record {
-    output = λ d from to. it.outputs_are (clock_at now b.trip) d from to;
-    actuated = λ d from to. it.actuated_are (clock_at now b.trip) d from to;
+    output = λ d from to. it.outputs_are (clock_at now b.trip) d from (omega (arith, to, few));
+    actuated = λ d from to. it.actuated_are (clock_at now b.trip) d from (omega (arith, to, few));
     button = λ d from to. it.no_button d;
     interval = λ p from to. ap (λ (x : Intervals). interval_of x p) it.intervals_are ∙ told (clock_at now b.trip) p from to;
     pedestrian_part = λ p from to. ap (λ (x : Pedestrians). pedestrian_of x p) it.pedestrians_are ∙ walking (clock_at now b.trip) p from to;
@@ -186,13 +187,13 @@ served-told checked o served s same told =
 -- a set of the overlaps that pass a test, of which a dark head passes none
 module _ (test : Aspect → Bool) (dark : (b : Bool) → test (flashed_if b Dark) ≡ false) (d : Display) (said : Heads) (same : IsSame (heads_of d) said) (few : NamesOverlaps d) where
   pub overlaps-told : (o : ℕ) → 1 ≤ o → test ((heads_of d).overlap o) ≡ (is_overlap o && test (said.overlap o))
-  overlaps-told o from = elim (cases_Bool (nat_le o 4)) [
+  overlaps-told o from = elim (cases_Bool (nat_le o OVERLAPS)) [
     | inl on ↦
-        let to : o ≤ 4 = grind (arith, nat_tests, on) in
+        let to : o ≤ OVERLAPS = grind (arith, nat_tests, on) in
         let here : is_overlap o ≡ true = grind (arith, nat_tests, from, to) in
         rw (same.overlap o from to, here) refl
     | inr off ↦
-        let over : 4 < o = grind (arith, nat_tests, off) in
+        let over : OVERLAPS < o = grind (arith, nat_tests, off) in
         let none : NamesNot d o = few o over in
         let away : is_overlap o ≡ false = grind (arith, nat_tests, over) in
         rw (none.red, none.yellow, none.green, away) (dark d.flashing)
@@ -208,17 +209,17 @@ dark-yellow false = refl
 
 -- the overlaps that are off
 pub off-told : (plan : Plan) (lit off : NumberSet) (served : PhaseSet) (s : State) (heads : Heads) →
-    ((o : ℕ) → 1 ≤ o → o ≤ 4 → has_number off o ≡ is_off_beside plan lit served o) → ((o : ℕ) → 4 < o → has_number off o ≡ false) →
+    ((o : ℕ) → 1 ≤ o → o ≤ OVERLAPS → has_number off o ≡ is_off_beside plan lit served o) → ((o : ℕ) → OVERLAPS < o → has_number off o ≡ false) →
     ((o : ℕ) → 1 ≤ o → has_number lit o ≡ ((is_overlap o && is_green (heads.overlap o)) || (is_overlap o && is_yellow_head (heads.overlap o)))) →
     ((o : ℕ) → list_any (λ p. is_included plan o p && has served p) (run_from 1 16) ≡ includes_service s o) →
     (o : ℕ) → 1 ≤ o → has_number off o ≡ (is_overlap o && is_off (heads.overlap o) (includes_service s o))
-off-told plan lit off served s heads told few is_lit includes o from = elim (cases_Bool (nat_le o 4)) [
+off-told plan lit off served s heads told few is_lit includes o from = elim (cases_Bool (nat_le o OVERLAPS)) [
   | inl on ↦
-      let to : o ≤ 4 = grind (arith, nat_tests, on) in
+      let to : o ≤ OVERLAPS = grind (arith, nat_tests, on) in
       let here : is_overlap o ≡ true = grind (arith, nat_tests, from, to) in
       told o from to ∙ rw (is_lit o from, includes o, here) refl
   | inr away ↦
-      let over : 4 < o = grind (arith, nat_tests, away) in
+      let over : OVERLAPS < o = grind (arith, nat_tests, away) in
       let none : is_overlap o ≡ false = grind (arith, nat_tests, over) in
       few o over ∙ sym (rw none refl)
 ]

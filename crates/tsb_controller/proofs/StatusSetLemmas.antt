@@ -94,19 +94,3 @@ entered-told rows i checked entered told is now b same =
     is (clock_at now b.trip)
     ∙ entered-same (checked_plan checked) (interval_of i) (interval (state_of now b rows)) (placed checked).count (told (clock_at now b.trip)) (state_of now b rows).preempts.service
     ∙ ap (λ (plan : Plan). entered_of plan (interval (state_of now b rows)) (state_of now b rows).preempts.service) (sym same)
-
--- each of four
-pub each-of-four : {A : Type 0} (f : ℕ → A) (w x y z d : A) → w ≡ f 1 → x ≡ f 2 → y ≡ f 3 → z ≡ f 4 → (n : ℕ) → 1 ≤ n → n ≤ 4 → get_or (w ∷ x ∷ y ∷ z ∷ []) (n - 1) d ≡ f n
-each-of-four f w x y z d one two three four n from to =
-    elim (eqb_tells n 1) [
-      | inl e ↦ rw e.1 one
-      | inr not_1 ↦ elim (eqb_tells n 2) [
-        | inl e ↦ rw e.1 two
-        | inr not_2 ↦ elim (eqb_tells n 3) [
-          | inl e ↦ rw e.1 three
-          | inr not_3 ↦
-              let last : n ≡ 4 = omega (arith, from, to, not_1.1, not_2.1, not_3.1) in
-              rw last four
-        ]
-      ]
-    ]

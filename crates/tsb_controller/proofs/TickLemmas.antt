@@ -6,6 +6,7 @@ use Rattle.std.proofs.lemmas.Bool.Decides.{nat_tests}
 use Rattle.tsb_cells.specs.declared.timer.Timer.{Timer}
 use Rattle.tsb_cells.specs.declared.timer.Timer.TheVariants.{Off}
 use Rattle.tsb_cells.proofs.TimerLemmas.{timer_at-this}
+use Rattle.tsb_step.specs.tsb_types.declared.limits.TheConstants.{PREEMPTS}
 use Rattle.tsb_step.specs.tsb_types.declared.flow.Called.{Called}
 use Rattle.tsb_step.specs.tsb_types.declared.flow.Intervals.{Intervals}
 use Rattle.tsb_step.specs.tsb_types.declared.flow.Moves.{Moves}
@@ -18,7 +19,7 @@ use Rattle.tsb_step.specs.tsb_types.declared.flow.Pedestrians.{Pedestrians}
 use Rattle.tsb_step.specs.tsb_types.Flow.{interval_of, pedestrian_of, target_of}
 use Rattle.tsb_step.specs.tsb_types.Lists.{run_from}
 use Rattle.tsb_step.specs.tsb_types.Intervals.{is_green}
-use Rattle.tsb_step.specs.tsb_types.Sets.{has, has_number, is_phase}
+use Rattle.tsb_step.specs.tsb_types.Sets.{has, has_detector, has_number, is_phase}
 use Rattle.tsb_step.proofs.tsb_types.ClipLemmas.{among_16, clipped-agrees, is_phase_from, within-agrees}
 use Rattle.tsb_step.specs.tsb_plan.Plan.{Plan, sequence}
 use Rattle.tsb_step.specs.tsb_plan.Parts.{call_phase, is_anew}
@@ -166,26 +167,26 @@ module _ (now : ℕ) (plan : Plan) (desk : Desk) (lamp : Option Lamp) (row : Row
   unfolding new_detectors
   detectors_are =
       ticks-all now row sensed.greens plan old.detectors sensed_rows.detectors sensed.detected
-      ∙ same-after plan now (has_number row.vehicles) (has_number row.vehicles) (detect.green_timer now sensed.greens) (λ p. tick.green_timer t (Some p))
+      ∙ same-after plan now (has_detector row.vehicles) (has_detector row.vehicles) (detect.green_timer now sensed.greens) (λ p. tick.green_timer t (Some p))
       (detector_in (now - 1) old.detectors) (detector_in (now - 1) old.detectors)
       (λ d from to. placed.called d) (λ d from to. refl) greens-agree (λ d from to. refl)
-      ∙ ap₂ (λ (n : ℕ) (green : ℕ → Timer). all_after plan n (has_number row.vehicles) green (detector_in (now - 1) old.detectors)) now_is
+      ∙ ap₂ (λ (n : ℕ) (green : ℕ → Timer). all_after plan n (has_detector row.vehicles) green (detector_in (now - 1) old.detectors)) now_is
       (fun_ext (λ d. called-green t (call_phase plan d)))
 
   -- ### Preempts
 
   alike : preempt_laws.AreAlike (preempts.given_by row s.intervals) (preempts_given t row)
-  alike = record { row = λ n from to. sym (one_of_four n from to); interval = shown }
+  alike = record { row = λ n from to. sym (one_of_all n from to); interval = shown }
     where
-      one_of_four : (n : ℕ) → 1 ≤ n → n ≤ 4 → (is_preempt n && has_number row.preempts n) ≡ has_number row.preempts n
-      one_of_four n from to = let is : is_preempt n ≡ true = grind (arith, nat_tests) in rw is refl
+      one_of_all : (n : ℕ) → 1 ≤ n → n ≤ PREEMPTS → (is_preempt n && has_number row.preempts n) ≡ has_number row.preempts n
+      one_of_all n from to = let is : is_preempt n ≡ true = grind (arith, nat_tests) in rw is refl
 
   pub preempts_are : preempts_in now sensed_rows.preempts ≡ preempts_words.next plan (preempts_given t row) (preempts_in (now - 1) old.preempts)
   preempts_are =
-      ticks-as-next now row s.intervals plan old.preempts sensed_rows.preempts (preempts_given t row) placed.count alike (λ n out. rw out refl) by.preempts sensed.preempts_by sensed.preempted
+      ticks-as-next now row s.intervals plan old.preempts sensed_rows.preempts (preempts_given t row) placed.count placed.preempts alike (λ n out. rw out refl) by.preempts sensed.preempts_by sensed.preempted
 
   wanted : preempts.AreOrders plan (preempts_given t row) (preempts_words.as_read (preempts_in (now - 1) old.preempts)) s.asked
-  wanted = orders-as-next now row s.intervals plan old.preempts (preempts_given t row) s.asked placed.count alike sensed.wanted
+  wanted = orders-as-next now row s.intervals plan old.preempts (preempts_given t row) s.asked placed.count placed.preempts alike sensed.wanted
 
   served : s.service ≡ service t row
   unfolding tick.new_service
@@ -193,10 +194,10 @@ module _ (now : ℕ) (plan : Plan) (desk : Desk) (lamp : Option Lamp) (row : Row
 
   -- ### Calls
 
-  calls_alike : calls_looks.AgreeOnPhases (calls.given_of (observed row s)) (calls_given t row)
+  calls_alike : calls_looks.AgreeOnPhases plan (calls.given_of (observed row s)) (calls_given t row)
   calls_alike = record {
-    output = λ d from to. sensed.outputs_are now d from to ∙ ap (λ (f : ℕ → Detector). (f d).output) detectors_are;
-    actuated = λ d from to. sensed.actuated_are now d from to ∙ ap (λ (f : ℕ → Detector). (f d).actuated) detectors_are;
+    output = λ d from to. sensed.outputs_are now d from (omega (arith, to, placed.detectors)) ∙ ap (λ (f : ℕ → Detector). (f d).output) detectors_are;
+    actuated = λ d from to. sensed.actuated_are now d from (omega (arith, to, placed.detectors)) ∙ ap (λ (f : ℕ → Detector). (f d).actuated) detectors_are;
     button = λ d from to. refl;
     interval = shown;
     pedestrian_part = λ p from to. sensed.walking (now - 1) p from to;

@@ -3,14 +3,17 @@ use Rattle.std.proofs.Common.{◌≡◌, ℕ, ◌+◌, ◌≤◌, Bool, true, fa
 use Rattle.std.proofs.Math.Path.{fun_ext}
 use Rattle.std.proofs.lemmas.Bool.{cases_Bool}
 use Rattle.std.proofs.lemmas.Bool.Decides.{nat_tests}
+use Rattle.tsb_step.specs.tsb_types.declared.limits.TheConstants.{PREEMPTS}
 use Rattle.tsb_cells.specs.declared.timer.Timer.TheVariants.{Off}
 use Rattle.tsb_cells.specs.Timer.{advanced, timer_at}
 use Rattle.tsb_cells.proofs.TimerLemmas.{timer_at-next}
+use Rattle.tsb_step.specs.tsb_types.Sets.{is_phase}
 use Rattle.tsb_step.proofs.tsb_types.ClipLemmas.{among_16}
 use Rattle.tsb_detect.specs.Cells as detect
 use Rattle.tsb_detect.specs.Cells.{detector_in, detector_of, row_in}
 use Rattle.tsb_detect.specs.Detector.{Detector, is_detector}
 use Rattle.tsb_detect.specs.Detector as detector
+use Rattle.tsb_detect.proofs.StateLemmas.{among-detectors}
 use Rattle.tsb_phase.specs.Cells as phases
 use Rattle.tsb_phase.specs.Cells.{phase_in, phase_of}
 use Rattle.tsb_phase.specs.Phase as phase
@@ -47,7 +50,7 @@ detectors-wait now row by = fun_ext (λ d. at d)
   where
     at : (d : ℕ) → detector_in (now + 1) row d ≡ detectors_waited (detector_in now row) d
     at d = elim (cases_Bool (is_detector d)) [
-      | inl on ↦ rw on (detector-waits now row d (by.each d (among_16 d on).from (among_16 d on).to))
+      | inl on ↦ rw on (detector-waits now row d (by.each d (among-detectors d on).from (among-detectors d on).to))
       | inr off ↦ rw off refl
     ]
 
@@ -69,7 +72,7 @@ unfolding phase_in
 phases-wait now row by = fun_ext (λ p. at p)
   where
     at : (p : ℕ) → phase_in (now + 1) row p ≡ phase.as_read (phase_in now row p)
-    at p = elim (cases_Bool (is_detector p)) [
+    at p = elim (cases_Bool (is_phase p)) [
       | inl on ↦ rw on (phase-waits now row p (by.each p (among_16 p on).from (among_16 p on).to))
       | inr off ↦ rw off refl
     ]
@@ -84,19 +87,19 @@ delays-wait now row by = fun_ext (λ n. at n)
     at n = elim (cases_Bool (is_preempt n)) [
       | inl on ↦
           let from : 1 ≤ n = grind (arith, nat_tests, on) in
-          let to : n ≤ 4 = grind (arith, nat_tests, on) in
+          let to : n ≤ PREEMPTS = grind (arith, nat_tests, on) in
           rw on (timer_at-next now (slice_index row (1 + n)) (by.each n from to).delay)
       | inr off ↦ rw off refl
     ]
 
 service-waits : (now : ℕ) (row : List ℕ) → preempt_cells.IsBy now row → service_in (now + 1) row ≡ service_as_read (service_in now row)
 unfolding service_in
-service-waits now row by = elim (cases_Bool (is_preempt (slice_index row 6))) [
+service-waits now row by = elim (cases_Bool (is_preempt (slice_index row (2 + PREEMPTS)))) [
   | inl on ↦ rw on (λ i. Some (record {
-    preempt = slice_index row 6;
-    stage = stage_in (slice_index row 7);
-    timer = timer_at-next now (slice_index row 8) by.timer i;
-    stage_timer = timer_at-next now (slice_index row 9) by.stage_timer i;
+    preempt = slice_index row (2 + PREEMPTS);
+    stage = stage_in (slice_index row (3 + PREEMPTS));
+    timer = timer_at-next now (slice_index row (4 + PREEMPTS)) by.timer i;
+    stage_timer = timer_at-next now (slice_index row (5 + PREEMPTS)) by.stage_timer i;
   }))
   | inr off ↦ rw off refl
 ]

@@ -4,6 +4,7 @@ use Rattle.std.specs.Prelude.{◌≡◌, ℕ, ◌-◌, ◌<◌, ◌≤◌, nat_l
 use Rattle.tsb_step.specs.tsb_types.declared.flow.Called.{Called}
 use Rattle.tsb_step.specs.tsb_types.declared.flow.Intervals.{Intervals}
 use Rattle.tsb_step.specs.tsb_types.declared.lamp.Lamp.{Lamp}
+use Rattle.tsb_step.specs.tsb_types.declared.limits.TheConstants.{VEHICLE_DETECTORS}
 use Rattle.tsb_step.specs.tsb_types.declared.row.Row.{Row}
 use Rattle.tsb_step.specs.tsb_types.declared.stage.Stage.{Stage}
 use Rattle.tsb_step.specs.tsb_plan.Plan.{Plan}
@@ -46,7 +47,7 @@ pub record IsSettled (now : ℕ) (row : Row) (plan : Plan) (rows : Rows) : Type 
 
 -- no output of a detector rose in it
 abbrev pub NoneRose : ℕ → Rows → Type 0
-NoneRose now rows = (d : ℕ) → 1 ≤ d → d ≤ 16 → (detector_in now rows.detectors d).actuated ≡ false
+NoneRose now rows = (d : ℕ) → 1 ≤ d → d ≤ VEHICLE_DETECTORS → (detector_in now rows.detectors d).actuated ≡ false
 
 -- ## Of phases
 

@@ -1,5 +1,6 @@
 -- What the calls of `Controller` for its status ensure, over its rows.
 use Rattle.std.specs.Prelude.{◌≡◌, ◌==◌, ℕ, ◌-◌, ◌≤◌, Bool, ◌&&◌, if◌then◌else◌, List, Option, Some, None, is_some, get_or}
+use Rattle.tsb_step.specs.tsb_types.declared.limits.TheConstants.{PREEMPTS}
 use Rattle.tsb_step.specs.tsb_types.declared.number_set.NumberSet.{NumberSet}
 use Rattle.tsb_step.specs.tsb_types.declared.phase_set.PhaseSet.{PhaseSet}
 use Rattle.tsb_step.specs.tsb_types.Clip.{Agree}

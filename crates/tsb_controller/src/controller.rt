@@ -62,9 +62,7 @@ impl Controller {
     {
         let sensed = self.sense(now, row, plan);
         let called = self.calls.tick(&sensed.observed(row), plan);
-        let held = self
-            .overlaps
-            .run_on(now, sensed.service.is_some(), plan);
+        let held = self.overlaps.run_on(now, sensed.service.is_some(), plan);
         let movement = self.proceed(now, &sensed, &called, held, plan);
         self.give_up(&sensed, plan);
         self.settle(now, &sensed, plan);

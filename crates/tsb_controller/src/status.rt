@@ -226,8 +226,8 @@ impl Controller {
     {
         let entered = self.preempts.has_entered(&self.phases.intervals(), plan);
         let mut states = [PreemptState::NotActive; PREEMPTS as usize];
-        for before in 0..PREEMPTS {
-            states[usize::from(before)] = self.preempt_state(entered, Preempt::of(before + 1));
+        for k in 0..PREEMPTS as usize {
+            states[k] = self.preempt_state(entered, Preempt::of(k as u8 + 1));
         }
         states
     }

@@ -1,5 +1,5 @@
 -- Laws of states: the table of detectors is read as they were, and a tick looks only at what is its own.
-use Rattle.std.proofs.Common.{zero, suc, ◌≡◌, ℕ, ◌+◌, ◌-◌, ◌*◌, ◌/◌, ◌%◌, ◌<◌, ◌≤◌, ◌==◌, Bool, true, false, List, [], ◌∷◌, ◌++◌, length, slice_index, map, refl, sym, ap, ap₂, ◌∙◌, arith, inl, inr, Option, Some, None, is_some}
+use Rattle.std.proofs.Common.{zero, suc, ◌≡◌, ℕ, ◌+◌, ◌-◌, ◌*◌, ◌/◌, ◌%◌, ◌<◌, ◌≤◌, ◌==◌, Bool, true, false, List, ◌++◌, length, slice_index, map, refl, sym, ap, ap₂, ◌∙◌, arith, inl, inr, Option, Some, None, is_some}
 use Rattle.std.proofs.Math.Path.{fun_ext}
 use Rattle.std.proofs.lemmas.Bool.{cases_Bool}
 use Rattle.std.proofs.lemmas.Bool.Decides.{nat_tests}
@@ -11,7 +11,7 @@ use Rattle.tsb_objects.specs.tsb_types.Clip.{Agree}
 use Rattle.tsb_objects.specs.tsb_types.Lists.{run_from}
 use Rattle.tsb_objects.specs.tsb_types.Sets.{names, list_of, wide_list_in, has_detector}
 use Rattle.tsb_objects.proofs.tsb_types.SetLemmas.{list_of-below}
-use Rattle.tsb_cells.proofs.TableLemmas.{front-read}
+use Rattle.tsb_cells.proofs.TableLemmas.{front-read, column-read, length-column}
 use Rattle.tsb_objects.specs.tsb_types.declared.limits.TheConstants.{VEHICLE_DETECTORS}
 use Rattle.tsb_objects.specs.tsb_plan.Plan.{Plan}
 use Rattle.tsb_objects.specs.tsb_plan.Parts.{call_phase, unless_zero}
@@ -26,7 +26,7 @@ use Rattle.tsb_detect.specs.Laws.{AreStatesBy, AgreeOnDetectors, CallsPhases}
 use Rattle.tsb_detect.specs.Promises.{IsTicked, green_timer}
 use Rattle.tsb_detect.proofs.ReadLemmas.{same_detector}
 use Rattle.tsb_detect.proofs.NextLemmas.{on-time-of}
-use Rattle.tsb_detect.proofs.TableLemmas.{column-read, length-column, list-read, low-small, high-small}
+use Rattle.tsb_detect.proofs.TableLemmas.{list-read, low-small, high-small}
 use Rattle.tsb_detect.proofs.ToldLemmas.{detector-from}
 
 -- ## The table is read
@@ -62,11 +62,11 @@ at-rest : (now : ℕ) (row : List ℕ) (d : ℕ) → is_detector d ≡ false →
 unfolding detector_in
 at-rest now row d out = rw out refl
 
-record IsAmong (d : ℕ) : Type 0 where
+pub record IsAmong (d : ℕ) : Type 0 where
   pub from : 1 ≤ d
   pub to : d ≤ VEHICLE_DETECTORS
 
-among-detectors : (d : ℕ) → is_detector d ≡ true → IsAmong d
+pub among-detectors : (d : ℕ) → is_detector d ≡ true → IsAmong d
 among-detectors d e = record { from = grind (arith, nat_tests, e); to = grind (arith, nat_tests, e) }
 
 module _ (now : ℕ) (f : ℕ → Detector) where

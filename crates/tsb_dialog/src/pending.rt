@@ -56,7 +56,7 @@ fn put_line(room: &mut ArrayVec<u8, ROOM>, line: &[u8])
 
 impl Pending {
     /// The greatest length of a line with its line feed, in bytes.
-    const LINE: usize = 64;
+    const LINE: usize = 72;
 
     /// Nothing was said.
     pub fn new() -> Pending
@@ -68,10 +68,10 @@ impl Pending {
         }
     }
 
-    /// Says a line of at most 63 bytes, and its line feed. Where there is no room for it, what waits is written first;
+    /// Says a line of at most 71 bytes, and its line feed. Where there is no room for it, what waits is written first;
     /// where that fails, the line was not said.
     pub fn say<W: Write>(&mut self, writer: &mut Watched<W>, line: &[u8]) -> Result<(), WriteError>
-        requires { length line.now ≤ 63 }
+        requires { length line.now ≤ 71 }
         ensures ok { OnOk result (Said (W.contents writer.old.device) (W.contents writer.new.device) self.old self.new (with_feed line.now)) }
         ensures fault { OnErr result (Said (W.contents writer.old.device) (W.contents writer.new.device) self.old self.new []) }
         ensures blame { writer.old.failed ≡ false → AfterCalls result writer.new.failed }

@@ -1,5 +1,6 @@
--- A display line is ASCII text of 53 bytes, and of heads it has only those of phases 1 to 16 and of overlaps 1 to 4.
-use Rattle.std.proofs.Common.{◌≡◌, ◌∙◌, ℕ, ◌+◌, ◌-◌, ◌%◌, ◌<◌, ◌≤◌, List, [], ◌∷◌, ◌++◌, map, length, refl, ap, arith, zero, suc, Option, Some, None, IfSome, take, drop, set, replicate}
+-- A display line is ASCII text of 53 bytes, and of heads it has only those of phases 1 to 16 and of overlaps 1 to 4. A wide
+-- line has 70, and overlaps 1 to 16.
+use Rattle.std.proofs.Common.{◌≡◌, ◌∙◌, ℕ, ◌+◌, ◌-◌, ◌%◌, ◌<◌, ◌≤◌, Bool, true, false, if◌then◌else◌, List, [], ◌∷◌, ◌++◌, map, length, refl, ap, sym, arith, zero, suc, Option, Some, None, IfSome, take, drop, set, replicate}
 use Rattle.std.specs.Str.{IsUtf8, IsAscii}
 use Rattle.std.proofs.lemmas.Str.{IsUtf8-from_ascii}
 use Rattle.tsb_types.specs.Lists.{run_from}
@@ -10,13 +11,36 @@ use Rattle.tsb_types.specs.declared.lamp.PedestrianAspect.TheVariants as pedestr
 use Rattle.tsb_heads.specs.Heads.{Heads}
 use Rattle.tsb_heads.specs.Promises.{IsSame}
 use Rattle.tsb_lines.specs.Digits.{digit}
-use Rattle.tsb_display_text.specs.Line.{line_of, letter, pedestrian_letter, tick_field, vehicle_field, pedestrian_field, overlap_field, local_field, preempt_digit}
+use Rattle.tsb_display_text.specs.Line.{line_in, line_of, wide_line_of, letter, pedestrian_letter, tick_field, vehicle_field, pedestrian_field, overlap_field, wide_overlap_field, local_field, preempt_digit}
 use Rattle.tsb_types.proofs.RunLemmas.{map-same}
 
 pub line-length : (now : ℕ) (heads : Heads) (preempt local : Option ℕ) → length (line_of now heads preempt local) ≡ 53
 unfolding line_of run_from
 line-length now heads preempt None = refl
 line-length now heads preempt (Some n) = refl
+
+pub wide-length : (now : ℕ) (heads : Heads) (preempt local : Option ℕ) → length (wide_line_of now heads preempt local) ≡ 70
+unfolding wide_line_of line_of run_from
+wide-length now heads preempt None = refl
+wide-length now heads preempt (Some n) = refl
+
+-- a wide line begins with the line
+pub wide-front : (now : ℕ) (heads : Heads) (preempt local : Option ℕ) → take 53 (wide_line_of now heads preempt local) ≡ line_of now heads preempt local
+unfolding wide_line_of line_of run_from
+wide-front now heads preempt None = refl
+wide-front now heads preempt (Some n) = refl
+
+-- so what it begins with has the length of a line
+pub front-full : (now : ℕ) (heads : Heads) (preempt local : Option ℕ) (bytes : List ℕ) → bytes ≡ wide_line_of now heads preempt local →
+    53 ≡ length (take 53 bytes)
+front-full now heads preempt local bytes e =
+    sym (ap (λ (bs : List ℕ). length (take 53 bs)) e ∙ ap length (wide-front now heads preempt local) ∙ line-length now heads preempt local)
+
+-- what is shown of a wide line is the line that was asked for
+pub shown-line : (is_wide : Bool) (now : ℕ) (heads : Heads) (preempt local : Option ℕ) (bytes : List ℕ) → bytes ≡ wide_line_of now heads preempt local
+    → (if is_wide then bytes else take 53 bytes) ≡ line_in is_wide now heads preempt local
+shown-line true now heads preempt local bytes e = e
+shown-line false now heads preempt local bytes e = ap (take 53) e ∙ wide-front now heads preempt local
 
 -- ## Text
 
@@ -36,8 +60,8 @@ small-pedestrian_letter pedestrian_aspects.Walk = omega arith
 small-digit : (n unit : ℕ) → digit n unit < 128
 small-digit n unit = omega arith
 
--- no preempt has a number above 4
-small-preempt : (o : Option ℕ) → IfSome o (λ n. n ≤ 4) → preempt_digit o < 128
+-- no preempt has a number above 8
+small-preempt : (o : Option ℕ) → IfSome o (λ n. n ≤ 8) → preempt_digit o < 128
 small-preempt None most = omega arith
 small-preempt (Some n) most = omega arith
 
@@ -68,7 +92,7 @@ ascii-local (Some n) = ascii-digits n (1000 ∷ 100 ∷ 10 ∷ 1 ∷ [])
 ascii-spaced : (bs : List ℕ) → IsAscii bs → IsAscii (32 ∷ bs)
 ascii-spaced bs t = ascii-cons 32 bs (omega arith) t
 
-pub line-ascii : (now : ℕ) (heads : Heads) (preempt local : Option ℕ) → IfSome preempt (λ n. n ≤ 4) → IsAscii (line_of now heads preempt local)
+pub line-ascii : (now : ℕ) (heads : Heads) (preempt local : Option ℕ) → IfSome preempt (λ n. n ≤ 8) → IsAscii (line_of now heads preempt local)
 unfolding line_of
 line-ascii now heads preempt local most =
     let behind_preempt : List ℕ = 32 ∷ local_field local in
@@ -89,9 +113,15 @@ line-ascii now heads preempt local most =
     (ascii-map (λ p. letter (heads.vehicle p)) (run_from 1 16) (λ p. small-letter (heads.vehicle p))) pedestrians_on) in
     ascii-append (tick_field now) behind_tick (ascii-digits now (1000000 ∷ 100000 ∷ 10000 ∷ 1000 ∷ 100 ∷ 10 ∷ 1 ∷ [])) vehicles_on
 
-pub line-utf8 : (now : ℕ) (heads : Heads) (preempt local : Option ℕ) → IfSome preempt (λ n. n ≤ 4) → IsUtf8 (line_of now heads preempt local)
+pub line-utf8 : (now : ℕ) (heads : Heads) (preempt local : Option ℕ) → IfSome preempt (λ n. n ≤ 8) → IsUtf8 (line_of now heads preempt local)
 line-utf8 now heads preempt local most =
     IsUtf8-from_ascii (line_of now heads preempt local) (line-ascii now heads preempt local most)
+
+pub wide-utf8 : (now : ℕ) (heads : Heads) (preempt local : Option ℕ) → IfSome preempt (λ n. n ≤ 8) → IsUtf8 (wide_line_of now heads preempt local)
+unfolding wide_line_of
+wide-utf8 now heads preempt local most =
+    IsUtf8-from_ascii (wide_line_of now heads preempt local) (ascii-append (line_of now heads preempt local) (32 ∷ wide_overlap_field heads.overlap) (line-ascii now heads preempt local most)
+    (ascii-spaced (wide_overlap_field heads.overlap) (ascii-map (λ o. letter (heads.overlap o)) (run_from 1 16) (λ o. small-letter (heads.overlap o)))))
 
 -- ## Heads
 
@@ -108,6 +138,15 @@ line-same now heads said preempt local same =
     map-same (λ o. letter (heads.overlap o)) (λ o. letter (said.overlap o)) 1 4 (λ o from below. ap letter (same.overlap o from (omega arith))) in
     λ i. tick_field now ++ (32 ∷ vehicles i ++ (32 ∷ pedestrians i ++ (32 ∷ overlaps i ++ (32 ∷ preempt_digit preempt ∷ 32 ∷ local_field local))))
 
+-- and the same wide line
+pub wide-same : (now : ℕ) (heads said : Heads) (preempt local : Option ℕ) → IsSame heads said →
+    wide_line_of now heads preempt local ≡ wide_line_of now said preempt local
+unfolding wide_line_of
+wide-same now heads said preempt local same =
+    let overlaps : wide_overlap_field heads.overlap ≡ wide_overlap_field said.overlap =
+    map-same (λ o. letter (heads.overlap o)) (λ o. letter (said.overlap o)) 1 16 (λ o from below. ap letter (same.overlap o from (omega arith))) in
+    λ i. line-same now heads said preempt local same i ++ (32 ∷ overlaps i)
+
 -- ## Writing
 
 -- a field of n bytes put into a line
@@ -117,26 +156,26 @@ placed at n field line = take at line ++ (field ++ drop (at + n) line)
 -- all fields put into a line of spaces
 abbrev pub written : List ℕ → List ℕ → List ℕ → List ℕ → ℕ → List ℕ → List ℕ
 written tick vehicles pedestrians overlaps preempt local =
-    placed 49 4 local (set (placed 42 4 overlaps (placed 25 16 pedestrians (placed 8 16 vehicles (placed 0 7 tick (replicate 53 32))))) 47 preempt)
+    placed 54 16 overlaps (placed 49 4 local (set (placed 42 4 (take 4 overlaps) (placed 25 16 pedestrians (placed 8 16 vehicles (placed 0 7 tick (replicate 70 32))))) 47 preempt))
 
 pub line-written : (now : ℕ) (heads : Heads) (preempt local : Option ℕ) →
-    written (tick_field now) (vehicle_field heads.vehicle) (pedestrian_field heads.pedestrian) (overlap_field heads.overlap) (preempt_digit preempt) (local_field local)
-    ≡ line_of now heads preempt local
-unfolding line_of run_from
+    written (tick_field now) (vehicle_field heads.vehicle) (pedestrian_field heads.pedestrian) (wide_overlap_field heads.overlap) (preempt_digit preempt) (local_field local)
+    ≡ wide_line_of now heads preempt local
+unfolding wide_line_of line_of run_from
 line-written now heads preempt None = refl
 line-written now heads preempt (Some n) = refl
 
 -- ## Lines that are made of one another
 
--- the line with these digits of the tick number
+-- the wide line with these digits of the tick number
 abbrev with_digits : List ℕ → Heads → Option ℕ → Option ℕ → List ℕ
 with_digits digits heads preempt local =
-    digits ++ (32 ∷ vehicle_field heads.vehicle ++ (32 ∷ pedestrian_field heads.pedestrian
-    ++ (32 ∷ overlap_field heads.overlap ++ (32 ∷ preempt_digit preempt ∷ 32 ∷ local_field local))))
+    (digits ++ (32 ∷ vehicle_field heads.vehicle ++ (32 ∷ pedestrian_field heads.pedestrian
+    ++ (32 ∷ overlap_field heads.overlap ++ (32 ∷ preempt_digit preempt ∷ 32 ∷ local_field local))))) ++ (32 ∷ wide_overlap_field heads.overlap)
 
 -- a line gets another tick number
-pub line-renumbered : (was now : ℕ) (heads : Heads) → placed 0 7 (tick_field now) (line_of was heads None None) ≡ line_of now heads None None
-unfolding line_of run_from
+pub line-renumbered : (was now : ℕ) (heads : Heads) → placed 0 7 (tick_field now) (wide_line_of was heads None None) ≡ wide_line_of now heads None None
+unfolding wide_line_of line_of run_from
 line-renumbered was now heads = refl
 
 -- all digits but the last are those of the number with a 0 for its last one
@@ -152,16 +191,16 @@ round-digits n =
 
 -- a line gets its last digit, its preempt and its local counter
 filled : (round units : ℕ) (heads : Heads) (preempt local : Option ℕ) →
-    placed 49 4 (local_field local) (set (set (line_of round heads None None) 6 units) 47 (preempt_digit preempt))
+    placed 49 4 (local_field local) (set (set (wide_line_of round heads None None) 6 units) 47 (preempt_digit preempt))
     ≡ with_digits (set (tick_field round) 6 units) heads preempt local
-unfolding line_of run_from
+unfolding wide_line_of line_of run_from
 filled round units heads preempt None = refl
 filled round units heads preempt (Some n) = refl
 
 pub line-filled : (now : ℕ) (heads : Heads) (preempt local : Option ℕ) →
-    placed 49 4 (local_field local) (set (set (line_of (now - now % 10) heads None None) 6 (digit now 1)) 47 (preempt_digit preempt))
-    ≡ line_of now heads preempt local
-unfolding line_of
+    placed 49 4 (local_field local) (set (set (wide_line_of (now - now % 10) heads None None) 6 (digit now 1)) 47 (preempt_digit preempt))
+    ≡ wide_line_of now heads preempt local
+unfolding wide_line_of line_of
 line-filled now heads preempt local =
     filled (now - now % 10) (digit now 1) heads preempt local
     ∙ ap (λ (digits : List ℕ). with_digits digits heads preempt local) (round-digits now)

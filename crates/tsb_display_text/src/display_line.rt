@@ -1,5 +1,5 @@
 //! The display line, field by field.
-ghost use Rattle.std.specs.Prelude.{◌≡◌, ◌+◌, ◌≤◌, ◌++◌, take, drop};
+ghost use Rattle.std.specs.Prelude.{◌≡◌, ◌+◌, ◌≤◌, ◌++◌, IfSome, take, drop};
 ghost use Rattle.std.specs.Str.{IsUtf8};
 ghost use Rattle.tsb_heads.specs.Heads.{Heads};
 ghost use Rattle.tsb_heads.specs.Reading.{heads_of};
@@ -103,6 +103,7 @@ pub(crate) fn bytes_of(
 ) -> WideBytes
     ensures line { (heads : Heads) → AreOf letters.now heads → result ≡ wide_line_of now heads preempt local }
     ensures text { (heads : Heads) → AreOf letters.now heads → IsUtf8 result }
+    ensures known { IfSome preempt (λ n. n ≤ 8) }
 {
     let mut bytes = [b' '; WIDE];
     put(&mut bytes, TICK, &seven_digits(now));

@@ -2,8 +2,9 @@
 //! local counter.
 //!
 //! The line is the profile's own. `line` gives it as text and `line_bytes` as bytes; neither takes memory, and both
-//! give the same bytes. A wide line has a field more, with overlaps 1 to 16. It is written once a tick, so its letters are found by sets of heads, a colour at a time, and a
-//! `LineMaker` takes them from the line before where no head has changed.
+//! give the same bytes. A wide line, which a `LineMaker` gives where it is asked for, has a field more, with overlaps 1
+//! to 16. A line is written once a tick, so its letters are found by sets of heads, a colour at a time, and a `LineMaker`
+//! takes them from the line before where no head has changed.
 #![tactic(auto)]
 
 mod display_line;

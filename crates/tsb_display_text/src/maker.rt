@@ -41,8 +41,8 @@ impl LineText {
     }
 }
 
-/// What the heads showed in a line, and that line, with all fields of a wide line. Its tick number ends in 0 here, and it has no preempt and no local
-/// counter.
+/// What the heads showed in a line, and that line, with all fields of a wide line. Its tick number ends in 0 here, and
+/// it has no preempt and no local counter.
 #[derive(Clone, Copy)]
 struct LastLine {
     heads: Display,

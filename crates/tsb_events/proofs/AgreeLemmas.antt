@@ -1,15 +1,17 @@
--- Views that agree on the numbers 1 to 16 have the same events.
+-- Views that agree on the numbers 1 to 16, and on all vehicle detectors, have the same events.
 use Rattle.std.proofs.Common.{◌≡◌, ℕ, ◌+◌, ◌-◌, ◌<◌, ◌≤◌, Bool, not, ◌&&◌, ◌||◌, zero, suc, List, [], ◌∷◌, ◌++◌, map, filter, flat_map, if◌then◌else◌, nat_eq, refl, ap, arith}
 use Rattle.std.specs.Option.{option_eq}
+use Rattle.tsb_types.specs.declared.limits.TheConstants.{VEHICLE_DETECTORS}
 use Rattle.tsb_types.specs.Clip.{Agree}
 use Rattle.tsb_types.specs.Lists.{or_number, run_from}
-use Rattle.tsb_types.specs.Sets.{has_number}
-use Rattle.tsb_types.specs.Events.{event, told, begins, either}
+use Rattle.tsb_types.specs.Sets.{has_detector, has_number}
+use Rattle.tsb_types.specs.Events.{event, told, told_detectors, begins, either}
 use Rattle.tsb_types.specs.declared.event.Event.{Event}
 use Rattle.tsb_types.specs.declared.event.TheConstants as codes
 use Rattle.tsb_types.specs.declared.row.Row.{Row}
 use Rattle.tsb_step.specs.declared.log_form.LogForm.{LogForm}
 use Rattle.tsb_step.specs.tsb_coord.Cycle.{number_of}
+use Rattle.tsb_step.specs.tsb_detect.Laws.{AgreeOnDetectors}
 use Rattle.tsb_step.specs.Events as events
 use Rattle.tsb_step.specs.declared.log_form.Noted.{Noted}
 use Rattle.tsb_step.specs.Events.{View, Found, Selected}
@@ -27,6 +29,16 @@ pub told-same : (tick code : ℕ) (f g : ℕ → Bool) → Agree f g → told ti
 told-same tick code f g same =
     ap (λ (ns : List ℕ). map (λ n. event tick code n) ns)
     (filter-within f g 1 16 (λ k from below. same k from (omega (arith, below))))
+
+pub told_detectors-same : (tick code : ℕ) (f g : ℕ → Bool) → AgreeOnDetectors f g → told_detectors tick code f ≡ told_detectors tick code g
+told_detectors-same tick code f g same =
+    ap (λ (ns : List ℕ). map (λ n. event tick code n) ns)
+    (filter-within f g 1 VEHICLE_DETECTORS (λ k from below. same k from (omega (arith, below))))
+
+pub detectors_begun-same : (tick code : ℕ) (f g h k : ℕ → Bool) → AgreeOnDetectors f g → AgreeOnDetectors h k →
+    told_detectors tick code (begins f h) ≡ told_detectors tick code (begins g k)
+detectors_begun-same tick code f g h k was now =
+    told_detectors-same tick code (begins f h) (begins g k) (λ n from to i. now n from to i && not (was n from to i))
 
 pub agree-either : (f g h k : ℕ → Bool) → Agree f g → Agree h k → Agree (either f h) (either g k)
 agree-either f g h k one other n from to = λ i. one n from to i || other n from to i
@@ -96,20 +108,21 @@ overlap-same tick v w x y was now =
     (agree-either _ _ _ _ was.overlap_greens was.overlap_yellows) i
     ++ begun-same tick codes.OVERLAP_OFF _ _ _ _ was.overlaps_off now.overlaps_off i
 
-vehicles-agree : (form : LogForm) (row : Row) (v w : View) → AgreeInAll v w → Agree (events.vehicles_in form row v) (events.vehicles_in form row w)
-vehicles-agree form row v w same n from to = λ i. if form.outputs then same.outputs n from to i else has_number row.vehicles n
+vehicles-agree : (form : LogForm) (row : Row) (v w : View) → AgreeInAll v w →
+    AgreeOnDetectors (events.vehicles_in form row v) (events.vehicles_in form row w)
+vehicles-agree form row v w same n from to = λ i. if form.outputs then same.outputs n from to i else has_detector row.vehicles n
 
 vehicle-same : (tick : ℕ) (noted : Noted) (row : Row) (v w x y : View) → AgreeInAll v w → AgreeInAll x y →
     events.vehicle_events tick noted row v x ≡ events.vehicle_events tick noted row w y
 vehicle-same tick noted row v w x y was now =
     let on_was = vehicles-agree noted.form noted.row v w was in
     let on = vehicles-agree noted.form row x y now in
-    λ i. begun-same tick codes.VEHICLE_OFF _ _ _ _ on on_was i ++ begun-same tick codes.VEHICLE_ON _ _ _ _ on_was on i
+    λ i. detectors_begun-same tick codes.VEHICLE_OFF _ _ _ _ on on_was i ++ detectors_begun-same tick codes.VEHICLE_ON _ _ _ _ on_was on i
 
 alarm-same : (tick : ℕ) (v w x y : View) → AgreeInAll v w → AgreeInAll x y → events.alarm_events tick v x ≡ events.alarm_events tick w y
 alarm-same tick v w x y was now =
-    λ i. begun-same tick codes.ALARM_GOES _ _ _ _ now.alarms was.alarms i
-    ++ begun-same tick codes.ALARM_COMES _ _ _ _ was.alarms now.alarms i
+    λ i. detectors_begun-same tick codes.ALARM_GOES _ _ _ _ now.alarms was.alarms i
+    ++ detectors_begun-same tick codes.ALARM_COMES _ _ _ _ was.alarms now.alarms i
 
 button-same : (tick : ℕ) (f g : Found) → AgreeInFound f g → events.button_events tick f ≡ events.button_events tick g
 button-same tick f g same =

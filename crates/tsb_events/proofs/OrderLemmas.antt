@@ -6,7 +6,8 @@ use Rattle.std.proofs.lemmas.Bool.Decides.{nat_tests}
 use Rattle.std.specs.List.{All}
 use Rattle.std.proofs.lemmas.List.Elements.{All-nil, All-cons, All-head, All-tail, All-append, All-weaker}
 use Rattle.tsb_types.specs.Lists.{or_number, run_from}
-use Rattle.tsb_types.specs.Events.{event, told}
+use Rattle.tsb_types.specs.Events.{event, told, told_detectors}
+use Rattle.tsb_types.specs.declared.limits.TheConstants.{VEHICLE_DETECTORS}
 use Rattle.tsb_types.specs.declared.event.Event.{Event}
 use Rattle.tsb_types.specs.declared.event.TheConstants as codes
 use Rattle.tsb_types.specs.declared.row.Row.{Row}
@@ -99,15 +100,21 @@ told-from tick code f a (suc n) = elim (cases_Bool (f a)) [
       rw fails (record { order = rest.order; each = All-weaker (IsFrom tick code (a + 1)) (IsFrom tick code a) (later tick code a) _ rest.each })
 ]
 
-pub one-code : (tick code : ℕ) (f : ℕ → Bool) → Span tick code (suc code) (told tick code f)
-one-code tick code f =
-    let those : Told tick code 1 (told tick code f) = told-from tick code f 1 16 in
+of-code : (tick code most : ℕ) (f : ℕ → Bool) → Span tick code (suc code) (map (λ k. event tick code k) (filter f (run_from 1 most)))
+of-code tick code most f =
+    let those : Told tick code 1 (map (λ k. event tick code k) (filter f (run_from 1 most))) = told-from tick code f 1 most in
     record {
       rises = omega arith;
       order = those.order;
       within = All-weaker (IsFrom tick code 1) (IsWithin tick code (suc code))
-          (λ e h. (h.0, omega (arith, h.1), omega (arith, h.1))) (told tick code f) those.each;
+          (λ e h. (h.0, omega (arith, h.1), omega (arith, h.1))) (map (λ k. event tick code k) (filter f (run_from 1 most))) those.each;
     }
+
+pub one-code : (tick code : ℕ) (f : ℕ → Bool) → Span tick code (suc code) (told tick code f)
+one-code tick code f = of-code tick code 16 f
+
+pub code-of-detectors : (tick code : ℕ) (f : ℕ → Bool) → Span tick code (suc code) (told_detectors tick code f)
+code-of-detectors tick code f = of-code tick code VEHICLE_DETECTORS f
 
 one-event : (tick code n : ℕ) → Span tick code (suc code) (event tick code n ∷ [])
 one-event tick code n = record {
@@ -158,10 +165,10 @@ overlap-span tick v w =
     codes.OVERLAP_RED_BEGINS _) refl) (one-code tick codes.OVERLAP_OFF _) refl
 
 pub vehicle-span : (tick : ℕ) (noted : Noted) (row : Row) (v w : View) → Span tick 81 83 (events.vehicle_events tick noted row v w)
-vehicle-span tick noted row v w = joined (one-code tick codes.VEHICLE_OFF _) (one-code tick codes.VEHICLE_ON _) refl
+vehicle-span tick noted row v w = joined (code-of-detectors tick codes.VEHICLE_OFF _) (code-of-detectors tick codes.VEHICLE_ON _) refl
 
 pub alarm-span : (tick : ℕ) (v w : View) → Span tick 83 85 (events.alarm_events tick v w)
-alarm-span tick v w = joined (one-code tick codes.ALARM_GOES _) (one-code tick codes.ALARM_COMES _) refl
+alarm-span tick v w = joined (code-of-detectors tick codes.ALARM_GOES _) (code-of-detectors tick codes.ALARM_COMES _) refl
 
 pub button-span : (tick : ℕ) (f : Found) → Span tick 89 91 (events.button_events tick f)
 button-span tick f = joined (one-code tick codes.PEDESTRIAN_OFF _) (one-code tick codes.PEDESTRIAN_ON _) refl

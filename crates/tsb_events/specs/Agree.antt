@@ -1,6 +1,8 @@
--- Views that agree on the numbers 1 to 16. Events name no others, so views that agree have the same events.
+-- Views that agree on the numbers 1 to 16, and on all vehicle detectors. Events name no others, so views that agree have
+-- the same events.
 use Rattle.std.specs.Prelude.{◌≡◌, ℕ}
 use Rattle.tsb_step.specs.tsb_types.Clip.{Agree}
+use Rattle.tsb_step.specs.tsb_detect.Laws.{AgreeOnDetectors}
 use Rattle.tsb_step.specs.Events as events
 use Rattle.tsb_step.specs.declared.log_form.Noted.{Noted}
 use Rattle.tsb_step.specs.Events.{View, Found, Selected}
@@ -21,8 +23,8 @@ pub record AgreeInAll (v w : View) : Type 0 where
   pub overlap_greens : Agree v.overlap_greens w.overlap_greens
   pub overlap_yellows : Agree v.overlap_yellows w.overlap_yellows
   pub overlaps_off : Agree v.overlaps_off w.overlaps_off
-  pub outputs : Agree v.outputs w.outputs
-  pub alarms : Agree v.alarms w.alarms
+  pub outputs : AgreeOnDetectors v.outputs w.outputs
+  pub alarms : AgreeOnDetectors v.alarms w.alarms
   pub switches : Agree v.switches w.switches
   pub preempts : Agree v.preempts w.preempts
   pub tracks : Agree v.tracks w.tracks

@@ -2,8 +2,8 @@
 ghost use Rattle.tsb_events.specs.Agree.{OthersTellByNumbers, TicksTellByNumbers};
 ghost use Rattle.tsb_events.specs.Order.{EventsHaveTheTick, InputsTellInOrder, OthersTellInOrder, TicksTellInOrder};
 
-/// Ticks have the same events where what a log sees agrees on the numbers 1 to 16. So who reads a controller need not
-/// say what is seen of any other number.
+/// Ticks have the same events where what a log sees agrees on the numbers 1 to 16, and on all vehicle detectors. So who
+/// reads a controller need not say what is seen of any other number.
 ///
 /// Needs: that both views agree before the tick and after it, and what the tick found as well.
 /// Mistakes: agreement on the numbers 1 to 15 alone (`sixteen_is_told`, `seventeen_is_not`).
@@ -12,7 +12,7 @@ pub fn ticks_tell_by_numbers()
     ensures { TicksTellByNumbers }
 {}
 
-/// Inputs that are no ticks have the same events where what a log sees agrees on the numbers 1 to 16.
+/// Inputs that are no ticks have the same events where what a log sees agrees on these numbers.
 ///
 /// Needs: that both views agree before the input and after it, and what is seen of the selected patterns as well.
 /// Mistakes: agreement on the numbers 1 to 15 alone (`sixteen_is_told`, `seventeen_is_not`).

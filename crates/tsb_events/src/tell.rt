@@ -1,8 +1,9 @@
 //! Telling the events of an input, group by group.
-ghost use Rattle.std.specs.Prelude.{◌≡◌, ◌+◌, ◌++◌, ◌≤◌, ◌&&◌, not};
+ghost use Rattle.std.specs.Prelude.{◌≡◌, ◌+◌, ◌*◌, ◌++◌, ◌≤◌, ◌&&◌, not};
 ghost use Rattle.arrayvec.specs.ArrayVec.{array_vec_len};
 ghost use Rattle.tsb_step.specs.tsb_types.Sets.{has_detector, has_number};
-ghost use Rattle.tsb_step.specs.tsb_types.Events.{begins, either, told};
+ghost use Rattle.tsb_step.specs.tsb_types.Events.{begins, either, told, told_detectors};
+ghost use Rattle.tsb_types.specs.declared.limits.TheConstants.{VEHICLE_DETECTORS};
 ghost use Rattle.tsb_step.specs.Events.{alarm_events, arrow_events, but_recalls, button_events, call_events, clearing_events, crossing_events, cycle_events, ending_events, exit_events, flash_events, green_events, leaves_dwell, once_green, other_events, overlap_events, pedestrian_events, pedestrian_calls_in, preempt_events, presence_events, request_events, requests, serving, tick_events, vehicle_calls_in, vehicle_events, vehicles_in, zero_events};
 ghost use Rattle.tsb_events.specs.declared.tell.TheConstants.{EVENTS};
 ghost use Rattle.tsb_events.specs.Seen.{found_of, selected_of, view_of};
@@ -12,19 +13,20 @@ use crate::seen::{Change, Found, Seen};
 use arrayvec::ArrayVec;
 use tsb_step::log_form::{LogForm, Noted};
 use tsb_types::event::{
-    ALARM_COMES, ALARM_GOES, BARRIER_CROSSED, CALL_COMES, CALL_GOES, CLEARANCE_BEGINS,
-    CONFLICT_BEGINS, CYCLE_STATE_CHANGES, CYCLE_ZERO, DONT_WALK_BEGINS, DWELL_BEGINS, EXIT_BEGINS,
-    FLASH, FLASH_CHANGES, FORCE_OFF, GAP_OUT, GREEN_BEGINS, GREEN_ENDS, MAX_OUT, MINIMUM_COMPLETE,
-    NO_FLASH, ARROW_BEGINS, ARROW_ENDS, OVERLAP_GREEN_BEGINS, OVERLAP_TRAIL_BEGINS, OVERLAP_OFF, OVERLAP_RED_BEGINS, OVERLAP_YELLOW_BEGINS,
-    PEDESTRIAN_CALL_COMES, PEDESTRIAN_OFF, PEDESTRIAN_ON, PHASE_OFF, PHASE_ON, PREEMPT_ENTERS,
-    PREEMPT_OFF, PREEMPT_ON, PRESENCE_EXCEEDED, RED_CLEARANCE_BEGINS, RED_CLEARANCE_ENDS,
-    TRACK_BEGINS, VEHICLE_OFF, VEHICLE_ON, WALK_BEGINS, YELLOW_BEGINS, YELLOW_ENDS, YIELD_POINT,
-    begun, joined, tell, tell_detectors,
+    ALARM_COMES, ALARM_GOES, ARROW_BEGINS, ARROW_ENDS, BARRIER_CROSSED, CALL_COMES, CALL_GOES,
+    CLEARANCE_BEGINS, CONFLICT_BEGINS, CYCLE_STATE_CHANGES, CYCLE_ZERO, DONT_WALK_BEGINS,
+    DWELL_BEGINS, EXIT_BEGINS, FLASH, FLASH_CHANGES, FORCE_OFF, GAP_OUT, GREEN_BEGINS, GREEN_ENDS,
+    MAX_OUT, MINIMUM_COMPLETE, NO_FLASH, OVERLAP_GREEN_BEGINS, OVERLAP_OFF, OVERLAP_RED_BEGINS,
+    OVERLAP_TRAIL_BEGINS, OVERLAP_YELLOW_BEGINS, PEDESTRIAN_CALL_COMES, PEDESTRIAN_OFF,
+    PEDESTRIAN_ON, PHASE_OFF, PHASE_ON, PREEMPT_ENTERS, PREEMPT_OFF, PREEMPT_ON, PRESENCE_EXCEEDED,
+    RED_CLEARANCE_BEGINS, RED_CLEARANCE_ENDS, TRACK_BEGINS, VEHICLE_OFF, VEHICLE_ON, WALK_BEGINS,
+    YELLOW_BEGINS, YELLOW_ENDS, YIELD_POINT, begun, joined, tell, tell_detectors,
 };
 use tsb_types::limits::VEHICLE_DETECTORS;
 use tsb_types::{DetectorSet, Event, NumberSet, Row};
 
-/// The most events of one input: 16 of each of 33 codes, four more, and one of each vehicle detector of each of 4 codes.
+/// The most events of one input: 16 of each of 36 codes, four more, and one for each vehicle detector of each of 4
+/// codes.
 pub const EVENTS: usize = 16 * 36 + 4 + 4 * VEHICLE_DETECTORS as usize;
 
 /// The events of one input.
@@ -92,6 +94,21 @@ fn tell_begun(events: &mut Events, tick: u32, code: u8, was: NumberSet, now: Num
     ensures few { array_vec_len events.new ≤ array_vec_len events.old + 16 }
 {
     tell(events, tick, code, begun(was, now));
+}
+
+/// Adds an event for each vehicle detector that is in a set now and was not.
+fn tell_detectors_begun(
+    events: &mut Events,
+    tick: u32,
+    code: u8,
+    was: DetectorSet,
+    now: DetectorSet,
+)
+    requires { array_vec_len events.old + VEHICLE_DETECTORS ≤ EVENTS }
+    ensures told { events.new.items ≡ events.old.items ++ told_detectors tick code (begins (has_detector was) (has_detector now)) }
+    ensures few { array_vec_len events.new ≤ array_vec_len events.old + VEHICLE_DETECTORS }
+{
+    tell_detectors(events, tick, code, now.difference(was));
 }
 
 /// Adds the greens that begin, and the conflicts that begin in a green.
@@ -327,8 +344,8 @@ fn tell_vehicles(events: &mut Events, tick: u32, noted: &Noted, row: &Row, was: 
 {
     let on_was = vehicles(&noted.form, &noted.row, was);
     let on = vehicles(&noted.form, row, now);
-    tell_detectors(events, tick, VEHICLE_OFF, on_was.difference(on));
-    tell_detectors(events, tick, VEHICLE_ON, on.difference(on_was));
+    tell_detectors_begun(events, tick, VEHICLE_OFF, on, on_was);
+    tell_detectors_begun(events, tick, VEHICLE_ON, on_was, on);
 }
 
 /// Adds the alarms of vehicle detectors that go and come.
@@ -337,8 +354,8 @@ fn tell_alarms(events: &mut Events, tick: u32, was: &Seen, now: &Seen)
     ensures told { events.new.items ≡ events.old.items ++ alarm_events tick (view_of was.now) (view_of now.now) }
     ensures few { array_vec_len events.new ≤ array_vec_len events.old + 2 * VEHICLE_DETECTORS }
 {
-    tell_detectors(events, tick, ALARM_GOES, was.alarms.difference(now.alarms));
-    tell_detectors(events, tick, ALARM_COMES, now.alarms.difference(was.alarms));
+    tell_detectors_begun(events, tick, ALARM_GOES, now.alarms, was.alarms);
+    tell_detectors_begun(events, tick, ALARM_COMES, was.alarms, now.alarms);
 }
 
 /// Adds the pedestrian inputs that go off and on in a tick.

@@ -85,7 +85,7 @@ stops-there (faults.Refused fault) status rows files told tells read line = inl 
 pub recorded-on : (status : ℕ) (from : Moment) (device : List ℕ) (options : RecordOptions) (found : Plan) (plan rows : List ℕ) (files : List ℕ → Option (List ℕ)) (before after : Devices) → HasPlan (files plan) found
     → RecordedOn status from device options found rows files before after → Recorded status from device options plan rows files before after
 recorded-on status from device options found plan rows files before after has recorded = elim recorded [
-  | inl ran ↦ inl (record { plan = found; log = ran.0; acts = true }, has, ran.1, refl, ran.2)
+  | inl ran ↦ inl (record { plan = found; log = ran.0; acts = true; is_wide = false }, has, ran.1, refl, refl, ran.2)
   | inr none ↦ inr (none.0, elim none.1 [ inl refused ↦ inr (inl (found, has, refused.0, refused.1, refused.2)) | inr failed ↦ inr (inr (inr (found, has, failed))) ])
 ]
 
@@ -107,30 +107,30 @@ abbrev pub with_input : Devices → Seen → Devices
 with_input before left = record { input = left; output = before.output; errors = before.errors }
 
 -- the events of a session that was read
-pub told-read : (from : Moment) (device : List ℕ) (rows : List LogRow) (replay : Replay) (status : ℕ) (before after : Devices) (left : Seen)
-    → ReplayRead (Ok replay) left.failed before.input.bytes left.bytes
-    → ReadsNothing (Writes status from device (session_events (changes_in replay) rows)) (with_input before left) after → ToldOn status from device rows before after
-told-read from device rows replay status before after left so writes =
-    let read : ReplayRead (Ok replay) after.input.failed before.input.bytes after.input.bytes =
-    subst (λ (s : Seen). ReplayRead (Ok replay) s.failed before.input.bytes s.bytes) (sym writes.0) so in
+pub told-read : (is_wide : Bool) (from : Moment) (device : List ℕ) (rows : List LogRow) (replay : Replay) (status : ℕ) (before after : Devices) (left : Seen)
+    → ReplayRead is_wide (Ok replay) left.failed before.input.bytes left.bytes
+    → ReadsNothing (Writes status from device (session_events (changes_in replay) rows)) (with_input before left) after → ToldOn is_wide status from device rows before after
+told-read is_wide from device rows replay status before after left so writes =
+    let read : ReplayRead is_wide (Ok replay) after.input.failed before.input.bytes after.input.bytes =
+    subst (λ (s : Seen). ReplayRead is_wide (Ok replay) s.failed before.input.bytes s.bytes) (sym writes.0) so in
     elim writes.1 [
       | inl text ↦ inl (inl (read.bytes, read.taken, read.so.0, read.so.1, text.0, subst (λ (shown : List Shown). IsLog from device (session_events shown rows) text.0) read.so.2.changes text.1, text.2))
       | inr none ↦ elim none [ inl memory ↦ inl (inr (read.bytes, read.taken, memory.0, inr (read.so.0, memory.1))) | inr late ↦ inr (read.bytes, read.taken, read.so.0, late.0, late.1, late.2) ]
     ]
 
 -- beside the log that words name
-pub told-on : (status : ℕ) (from : Moment) (device : List ℕ) (rows : List LogRow) (files : List ℕ → Option (List ℕ)) (path : Option (List ℕ)) (before after : Devices) → NamesLog files path rows
-    → ToldOn status from device rows before after → Told status from device files path before after
-told-on status from device rows files path before after names on = elim on [ inl drawn ↦ inr (inl (rows, names, drawn)) | inr late ↦ inr (inr late) ]
+pub told-on : (is_wide : Bool) (status : ℕ) (from : Moment) (device : List ℕ) (rows : List LogRow) (files : List ℕ → Option (List ℕ)) (path : Option (List ℕ)) (before after : Devices) → NamesLog files path rows
+    → ToldOn is_wide status from device rows before after → Told is_wide status from device files path before after
+told-on is_wide status from device rows files path before after names on = elim on [ inl drawn ↦ inr (inl (rows, names, drawn)) | inr late ↦ inr (inr late) ]
 
 -- the picture of a session that was read
-pub drawn-read : (form : Form) (ends : List GreenEnd) (rows : List LogRow) (replay : Replay) (status : ℕ) (before after : Devices) (left : Seen)
-    → ReplayRead (Ok replay) left.failed before.input.bytes left.bytes
+pub drawn-read : (is_wide : Bool) (form : Form) (ends : List GreenEnd) (rows : List LogRow) (replay : Replay) (status : ℕ) (before after : Devices) (left : Seen)
+    → ReplayRead is_wide (Ok replay) left.failed before.input.bytes left.bytes
     → ReadsNothing (Draws (diagram_text form (record { changes = changes_in replay; last = last_in replay; rows = rows; ends = ends })) status) (with_input before left) after
-    → Drawn (IsDiagram form ends) status rows before after
-drawn-read form ends rows replay status before after left so draws =
-    let read : ReplayRead (Ok replay) after.input.failed before.input.bytes after.input.bytes =
-    subst (λ (s : Seen). ReplayRead (Ok replay) s.failed before.input.bytes s.bytes) (sym draws.0) so in
+    → Drawn is_wide (IsDiagram form ends) status rows before after
+drawn-read is_wide form ends rows replay status before after left so draws =
+    let read : ReplayRead is_wide (Ok replay) after.input.failed before.input.bytes after.input.bytes =
+    subst (λ (s : Seen). ReplayRead is_wide (Ok replay) s.failed before.input.bytes s.bytes) (sym draws.0) so in
     elim draws.1 [
       | inl written ↦ inl (
         read.bytes,
@@ -163,31 +163,31 @@ ends-came (Err (faults.Refused fault)) from known text front is = (text, front, 
 ends-came (Err (faults.Failed why)) from known text front is = tt
 
 -- why a session was not read is printed
-pub not-drawn : (fault : ReplayError) (failure : Failure) (failed : Bool) (left : Option (List ℕ)) (bytes : List ℕ) (status : ℕ) (told tells : Seen) → failure ≡ failure_by fault
-    → ReadSo (Err fault) failed left bytes → Fails failure status told tells → NotDrawn failed bytes status told tells
-not-drawn replays.Memory failure failed left bytes status told tells is so fails = inr (so, subst (λ (f : Failure). Fails f status told tells) is fails)
-not-drawn replays.Read failure failed left bytes status told tells is so fails = inl (so, subst (λ (f : Failure). Fails f status told tells) is fails)
+pub not-drawn : (is_wide : Bool) (fault : ReplayError) (failure : Failure) (failed : Bool) (left : Option (List ℕ)) (bytes : List ℕ) (status : ℕ) (told tells : Seen) → failure ≡ failure_by fault
+    → ReadSo is_wide (Err fault) failed left bytes → Fails failure status told tells → NotDrawn failed bytes status told tells
+not-drawn is_wide replays.Memory failure failed left bytes status told tells is so fails = inr (so, subst (λ (f : Failure). Fails f status told tells) is fails)
+not-drawn is_wide replays.Read failure failed left bytes status told tells is so fails = inl (so, subst (λ (f : Failure). Fails f status told tells) is fails)
 
 -- the same of a session whose events or picture were to be written
-pub not-read : (Is : List Shown → Option ℕ → List LogRow → List ℕ → Type 0) (fault : ReplayError) (failure : Failure) (status : ℕ) (rows : List LogRow) (before after : Devices) (left : Seen)
-    → failure ≡ failure_by fault → ReplayRead (Err fault) left.failed before.input.bytes left.bytes → OnlyTells (Fails failure status) (with_input before left) after
-    → Drawn Is status rows before after
-not-read Is fault failure status rows before after left is so fails =
-    let read : ReplayRead (Err fault) after.input.failed before.input.bytes after.input.bytes =
-    subst (λ (s : Seen). ReplayRead (Err fault) s.failed before.input.bytes s.bytes) (sym fails.0.0) so in
-    inr (read.bytes, read.taken, fails.0.1, not-drawn fault failure after.input.failed after.input.bytes read.bytes status before.errors after.errors is read.so fails.1)
+pub not-read : (is_wide : Bool) (Is : List Shown → Option ℕ → List LogRow → List ℕ → Type 0) (fault : ReplayError) (failure : Failure) (status : ℕ) (rows : List LogRow) (before after : Devices) (left : Seen)
+    → failure ≡ failure_by fault → ReplayRead is_wide (Err fault) left.failed before.input.bytes left.bytes → OnlyTells (Fails failure status) (with_input before left) after
+    → Drawn is_wide Is status rows before after
+not-read is_wide Is fault failure status rows before after left is so fails =
+    let read : ReplayRead is_wide (Err fault) after.input.failed before.input.bytes after.input.bytes =
+    subst (λ (s : Seen). ReplayRead is_wide (Err fault) s.failed before.input.bytes s.bytes) (sym fails.0.0) so in
+    inr (read.bytes, read.taken, fails.0.1, not-drawn is_wide fault failure after.input.failed after.input.bytes read.bytes status before.errors after.errors is read.so fails.1)
 
 -- a run on this plan and log ended so, with these options, and then this was written, with no more read
 pub ran-so : (result : Result Outcome SessionError) (status : ℕ) (from : Moment) (device : List ℕ) (options other : RecordOptions) (plan : Plan) (log : List LogRow) (before after : Devices) (left mid : Seen)
     → other ≡ options → after.input ≡ left
-    → recorded.EndedFrom result other.on_fault other.form (record { plan = plan; log = log; acts = other.acts }) other.clock before.input.bytes left.bytes before.errors.bytes mid.bytes
+    → recorded.EndedFrom result other.on_fault other.form (record { plan = plan; log = log; acts = other.acts; is_wide = false }) other.clock before.input.bytes left.bytes before.errors.bytes mid.bytes
     → Blames result left.failed mid.failed mid.flushed → WritesEnd result status from device before.output after.output mid after.errors
-    → RanSo status from device options (record { plan = plan; log = log; acts = options.acts }) before after
+    → RanSo status from device options (record { plan = plan; log = log; acts = options.acts; is_wide = false }) before after
 ran-so result status from device options other plan log before after left mid asked same ended blames ends = (
   result,
   mid,
-  subst (λ (s : Seen). recorded.EndedFrom result options.on_fault options.form (record { plan = plan; log = log; acts = options.acts }) options.clock before.input.bytes s.bytes before.errors.bytes mid.bytes) (sym same)
-      (subst (λ (o : RecordOptions). recorded.EndedFrom result o.on_fault o.form (record { plan = plan; log = log; acts = o.acts }) o.clock before.input.bytes left.bytes before.errors.bytes mid.bytes) asked ended),
+  subst (λ (s : Seen). recorded.EndedFrom result options.on_fault options.form (record { plan = plan; log = log; acts = options.acts; is_wide = false }) options.clock before.input.bytes s.bytes before.errors.bytes mid.bytes) (sym same)
+      (subst (λ (o : RecordOptions). recorded.EndedFrom result o.on_fault o.form (record { plan = plan; log = log; acts = o.acts; is_wide = false }) o.clock before.input.bytes left.bytes before.errors.bytes mid.bytes) asked ended),
   subst (λ (s : Seen). Blames result s.failed mid.failed mid.flushed) (sym same) blames,
   ends,
 )

@@ -190,7 +190,7 @@ RecordedOn status from device options plan rows files before after =
 -- how `record` ended on the files of a plan and a log, of these names: after a run, or with nothing read and nothing written
 abbrev pub Recorded : ℕ → Moment → List ℕ → RecordOptions → (plan rows : List ℕ) → (List ℕ → Option (List ℕ)) → (before after : Devices) → Type 0
 Recorded status from device options plan rows files before after =
-    ((given : Setup) × HasPlan (files plan) given.plan × HasLog (files rows) given.log × (given.acts ≡ true) × RanSo status from device options given before after)
+    ((given : Setup) × HasPlan (files plan) given.plan × HasLog (files rows) given.log × (given.acts ≡ true) × (given.is_wide ≡ false) × RanSo status from device options given before after)
     ⊎ OnlyTells (NoRun plan rows files status) before after
 
 -- the same, where it may be that no clock can be set to tick 1, and one has to be: nothing is read or written then

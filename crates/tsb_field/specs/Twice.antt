@@ -5,6 +5,7 @@ use Rattle.std.specs.List.{list_any}
 use Rattle.tsb_field_log.specs.Wires.{leads_to}
 use Rattle.tsb_field_log.specs.declared.inputs.InputKind.TheVariants.{Vehicle}
 use Rattle.tsb_field_log.specs.declared.inputs.Wire.{Wire}
+use Rattle.tsb_types.specs.declared.limits.TheConstants.{VEHICLE_DETECTORS}
 use Rattle.tsb_text.specs.tsb_plan.Parts.{detector_delay, detector_extend}
 use Rattle.tsb_text.specs.tsb_plan.Plan.{Plan}
 
@@ -48,6 +49,6 @@ unfoldable pub twice_lines : List Wire → Plan → ℕ → ℕ → List ℕ
 twice_lines wires plan detector zero = []
 twice_lines wires plan detector (suc count) = twice_line wires plan detector ++ twice_lines wires plan (suc detector) count
 
--- what is told of all 16 vehicle detectors
+-- what is told of all vehicle detectors
 abbrev pub twice_text : List Wire → Plan → List ℕ
-twice_text wires plan = twice_lines wires plan 1 16
+twice_text wires plan = twice_lines wires plan 1 VEHICLE_DETECTORS

@@ -93,7 +93,7 @@ fn write_compared<R: Read, W: Write, E: Write>(
     }
 }
 
-/// Writes it, and has the writer pass it on. It tells whether there is any.
+/// Writes it, and has the writer pass it on. Gives whether there is any.
 fn passed_on<W: Write>(
     wanted: &Card,
     found: &Card,

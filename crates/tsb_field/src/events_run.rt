@@ -6,48 +6,44 @@ use crate::end::{failure_by, write_made};
 use crate::named::{log_named, name_of};
 use std::alloc::Global;
 use std::io::{Read, Write};
-use tsb_event_text::Moment;
 use tsb_field_display::{events_text, read_replay};
 use tsb_log_text::Log;
 use tsb_program::{Files, Streams};
+use tsb_words::field_files::EventsAsked;
 
 /// Makes a controller's event log from what a session answers.
 pub(crate) fn write_events<F: Files, R: Read, W: Write, E: Write>(
     alloc: Global,
-    from: Moment,
-    device: &str,
-    path: Option<&str>,
-    is_wide: bool,
+    asked: &EventsAsked<'_>,
     files: &F,
     streams: &mut Streams<R, W, E>,
 ) -> u8
     requires reads { streams.old.input.failed ≡ false }
-    ensures { Told is_wide result from device.now (F.bytes files.now) (option_map (λ path. path.now) path.entry) streams.old streams.new }
+    ensures { Told asked.now.is_wide result asked.now.from asked.now.device.now (F.bytes files.now)
+        (option_map (λ path. path.now) asked.now.log) streams.old streams.new }
 {
-    match log_named(alloc, files, path) {
-        Ok(rows) => write_events_of(alloc, from, device, &rows, is_wide, streams),
-        Err(fault) => streams.refuse(alloc, name_of(path), fault),
+    match log_named(alloc, files, asked.log) {
+        Ok(rows) => write_events_of(alloc, asked, &rows, streams),
+        Err(fault) => streams.refuse(alloc, name_of(asked.log), fault),
     }
 }
 
 /// Makes a controller's event log from what a session answers, with these rows of a log.
 fn write_events_of<R: Read, W: Write, E: Write>(
     alloc: Global,
-    from: Moment,
-    device: &str,
+    asked: &EventsAsked<'_>,
     rows: &Log,
-    is_wide: bool,
     streams: &mut Streams<R, W, E>,
 ) -> u8
     requires reads { streams.old.input.failed ≡ false }
-    ensures { ToldOn is_wide result from device.now rows.now streams.old streams.new }
+    ensures { ToldOn asked.now.is_wide result asked.now.from asked.now.device.now rows.now streams.old streams.new }
 {
-    match read_replay(alloc, is_wide, &mut streams.input) {
+    match read_replay(alloc, asked.is_wide, &mut streams.input) {
         Ok(replay) => {
             let made = events_text(
                 alloc,
-                from,
-                device.as_bytes(),
+                asked.from,
+                asked.device.as_bytes(),
                 replay.changes(),
                 rows.rows(),
             );

@@ -4,6 +4,7 @@ ghost use Rattle.std.specs.Prelude.{◌≡◌, ◌++◌, IfOk, OnOk, string_byte
 ghost use Rattle.tsb_field_log.specs.Mapping.{wires_of};
 ghost use Rattle.tsb_field_log.specs.Wires.{leads_to};
 ghost use Rattle.tsb_field_log.specs.declared.inputs.InputKind.TheVariants.{Vehicle};
+ghost use Rattle.tsb_types.specs.declared.limits.TheConstants.{VEHICLE_DETECTORS};
 ghost use Rattle.tsb_text.specs.tsb_plan.PlanOf.{plan_of};
 ghost use Rattle.tsb_field.specs.Twice.{acts_twice, both_line, delay_line, extend_line, is_led, twice_line, twice_lines, twice_text};
 
@@ -11,9 +12,6 @@ use std::alloc::{AllocError, Global};
 use tsb_field_log::{InputKind, Wire, wires};
 use tsb_text::{Detector, Plan};
 use tsb_types::limits::VEHICLE_DETECTORS;
-
-/// How many vehicle detectors there are.
-const DETECTORS: u8 = VEHICLE_DETECTORS;
 
 /// The lines of the vehicle detectors with a delay or an extension that a wire leads to, one that is mapped or one that
 /// is there without. The error is that memory ran out.
@@ -33,9 +31,9 @@ fn append_lines(
     wires: &[Wire],
     plan: &Plan,
 ) -> Result<(), AllocError>
-    ensures { OnOk result (text.new.items ≡ text.old.items ++ twice_lines wires.now (plan_of plan.now) 1 16) }
+    ensures { OnOk result (text.new.items ≡ text.old.items ++ twice_lines wires.now (plan_of plan.now) 1 VEHICLE_DETECTORS) }
 {
-    for before in 0..DETECTORS {
+    for before in 0..VEHICLE_DETECTORS {
         append_line(alloc, text, wires, plan, Detector::of(before + 1))?;
     }
     Ok(())

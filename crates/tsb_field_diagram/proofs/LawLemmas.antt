@@ -1,6 +1,6 @@
 -- Bars are stretches.
 use Rattle.std.proofs.Common.{◌≡◌, ◌≢◌, ◌∙◌, ℕ, ◌<◌, ◌≤◌, max, Bool, true, false, leb, ltb, eqb, if◌then◌else◌, List, [], ◌∷◌, ◌⊎◌, refl, sym, ap, arith, inl, inr}
-use Rattle.std.proofs.lemmas.Bool.{le-leb, lt-leb, lt-ltb, le-ltb, eq-eqb}
+use Rattle.std.proofs.lemmas.Bool.{cases_Bool, le-leb, lt-leb, lt-ltb, le-ltb, eq-eqb}
 use Rattle.std.proofs.lemmas.Bool.Decides.{leb_tells, eqb_tells}
 use Rattle.tsb_field_diagram.specs.declared.band.BandMark.{BandMark}
 use Rattle.tsb_field_diagram.specs.declared.band.BandMark.TheVariants.{Dark, Green, Yellow, Red, Flashing, Walk, Clearance, DontWalk, Served, On}
@@ -97,10 +97,6 @@ cut-within tick end (y ∷ ys) =
 
 -- ## Bars from one that has begun
 
-either_way : (b : Bool) → (b ≡ true) ⊎ (b ≡ false)
-either_way true = inl refl
-either_way false = inr refl
-
 -- what is before a tick is before a later one
 sooner : {A : Type 0} (tick : A → ℕ) (early late : ℕ) (xs : List A) → early < late → IsBefore tick late xs → IsBefore tick early xs
 sooner tick early late [] lt before = tt
@@ -115,7 +111,7 @@ fills : {A : Type 0} (tick : A → ℕ) (shown : A → BandMark) (begin : ℕ) (
 unfolding bars_on
 fills tick shown begin now end [] lt before rises within = (refl, (lt, refl))
 fills tick shown begin now end (y ∷ ys) lt before rises within =
-    elim (either_way (is_same (shown y) now)) [
+    elim (cases_Bool (is_same (shown y) now)) [
       | inl e ↦ rw e (fills tick shown begin now end ys lt (sooner tick begin (tick y) ys before rises.0) rises.1 within.1)
       | inr e ↦ rw e (refl, (before, fills tick shown (tick y) (shown y) end ys within.0 rises.0 rises.1 within.1))
     ]
@@ -125,7 +121,7 @@ differs_from : {A : Type 0} (tick : A → ℕ) (shown : A → BandMark) (begin :
 unfolding bars_on
 differs_from tick shown begin now end [] other apart = (apart, tt)
 differs_from tick shown begin now end (y ∷ ys) other apart =
-    elim (either_way (is_same (shown y) now)) [
+    elim (cases_Bool (is_same (shown y) now)) [
       | inl e ↦ rw e (differs_from tick shown begin now end ys other apart)
       | inr e ↦ rw e (apart, differs_from tick shown (tick y) (shown y) end ys now (other-mark (shown y) now e))
     ]
@@ -134,7 +130,7 @@ differs : {A : Type 0} (tick : A → ℕ) (shown : A → BandMark) (begin : ℕ)
 unfolding bars_on
 differs tick shown begin now end [] = tt
 differs tick shown begin now end (y ∷ ys) =
-    elim (either_way (is_same (shown y) now)) [
+    elim (cases_Bool (is_same (shown y) now)) [
       | inl e ↦ rw e (differs tick shown begin now end ys)
       | inr e ↦ rw e (differs_from tick shown (tick y) (shown y) end ys now (other-mark (shown y) now e))
     ]
@@ -155,7 +151,7 @@ tells : {A : Type 0} (tick : A → ℕ) (shown : A → BandMark) (begin : ℕ) (
 unfolding bars_on
 tells tick shown begin x end [] lt before rises within now is = ((λ t from below. sym is), tt)
 tells tick shown begin x end (y ∷ ys) lt before rises within now is =
-    elim (either_way (is_same (shown y) now)) [
+    elim (cases_Bool (is_same (shown y) now)) [
       | inl e ↦
           let as_now : shown y ≡ now = same-mark (shown y) now e in
           let nearer = sooner tick begin (tick y) ys before rises.0 in

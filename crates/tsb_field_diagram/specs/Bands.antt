@@ -1,9 +1,9 @@
 -- The bands of a diagram, and what each shows.
-use Rattle.tsb_types.specs.declared.limits.TheConstants.{VEHICLE_DETECTORS}
-use Rattle.tsb_types.specs.declared.detector_set.DetectorSet.{DetectorSet}
 use Rattle.std.specs.Prelude.{ℕ, nat_le, Bool, ◌&&◌, if◌then◌else◌, Option}
 use Rattle.tsb_types.specs.Lists.{is}
 use Rattle.tsb_types.specs.Sets.{has_detector, has_number}
+use Rattle.tsb_types.specs.declared.detector_set.DetectorSet.{DetectorSet}
+use Rattle.tsb_types.specs.declared.limits.TheConstants.{VEHICLE_DETECTORS}
 use Rattle.tsb_types.specs.declared.number_set.NumberSet.{NumberSet}
 use Rattle.tsb_field_display.specs.Events.{is_in_flash}
 use Rattle.tsb_field_display.specs.declared.shown.PedestrianHeads.{PedestrianHeads}
@@ -32,7 +32,8 @@ vehicle_mark n heads =
     if shows heads.greens n then marks.Green else
     (if shows heads.yellows n then marks.Yellow else
     (if shows heads.reds n then marks.Red else
-    (if shows heads.flashing n then marks.Flashing else marks.Dark)))
+    (if shows heads.flashing n then marks.Flashing else
+    (if shows heads.arrows n then marks.Arrow else marks.Dark))))
 
 -- what a pedestrian head shows
 abbrev pub pedestrian_mark : ℕ → PedestrianHeads → BandMark

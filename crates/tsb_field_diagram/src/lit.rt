@@ -26,8 +26,20 @@ pub(crate) fn bands(
     add_all(&mut bands, BandKind::Flash, 1, changes, rows)?;
     add_phases(&mut bands, changes, rows)?;
     add_all(&mut bands, BandKind::Overlap, OVERLAPS, changes, rows)?;
-    add_all(&mut bands, BandKind::VehicleInput, VEHICLE_DETECTORS, changes, rows)?;
-    add_all(&mut bands, BandKind::PedestrianInput, PEDESTRIAN_DETECTORS, changes, rows)?;
+    add_all(
+        &mut bands,
+        BandKind::VehicleInput,
+        VEHICLE_DETECTORS,
+        changes,
+        rows,
+    )?;
+    add_all(
+        &mut bands,
+        BandKind::PedestrianInput,
+        PEDESTRIAN_DETECTORS,
+        changes,
+        rows,
+    )?;
     add_all(&mut bands, BandKind::PreemptInput, PREEMPTS, changes, rows)?;
     Ok(bands)
 }

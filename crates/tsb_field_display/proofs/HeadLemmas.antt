@@ -2,16 +2,17 @@
 use Rattle.std.proofs.Common.{◌≡◌, ◌∙◌, ℕ, ◌<◌, ◌≤◌, ◌==◌, Bool, false, zero, suc, List, length, map, Option, IfSome, refl, ap, arith}
 use Rattle.tsb_types.specs.Lists.{run_from}
 use Rattle.tsb_types.specs.Sets.{has_number}
+use Rattle.tsb_types.specs.declared.limits.TheConstants.{PREEMPTS}
 use Rattle.tsb_types.specs.declared.lamp.Aspect.{Aspect}
 use Rattle.tsb_types.specs.declared.lamp.Aspect.TheVariants.{Dark, Red, Yellow, Green, FlashingRed}
 use Rattle.tsb_types.specs.declared.lamp.PedestrianAspect.{PedestrianAspect}
 use Rattle.tsb_types.specs.declared.lamp.PedestrianAspect.TheVariants as pedestrian_aspects
-use Rattle.tsb_display_text.specs.Line.{letter, line_of, pedestrian_letter}
+use Rattle.tsb_display_text.specs.Line.{letter, line_in, pedestrian_letter}
 use Rattle.tsb_display_text.specs.tsb_heads.Colours as colours
 use Rattle.tsb_display_text.specs.tsb_heads.Heads.{Heads}
 use Rattle.tsb_display_text.specs.tsb_heads.Monitoring as monitor
 use Rattle.tsb_field_display.specs.Events.{is_green, is_yellow, is_walk, is_clearance, is_overlap_green, is_overlap_yellow}
-use Rattle.tsb_field_display.specs.Reading.{heads_with, preempt_of, signals_of}
+use Rattle.tsb_field_display.specs.Reading.{heads_with, overlaps_in, preempt_of, signals_of}
 use Rattle.tsb_field_display.specs.declared.shown.Signals.{Signals}
 use Rattle.tsb_field_display.proofs.LetterLemmas.{names-beyond}
 use Rattle.tsb_field_display.proofs.LineLemmas.{Fields, fields, head-letter, mapped-length, preempt-read}
@@ -53,18 +54,18 @@ letter-clearance pedestrian_aspects.Walk = refl
 
 -- ## Heads
 
--- these signals are those of heads, with this preempt in service; there are 16 heads, and 4 overlaps
-pub record Shows (heads : Heads) (served : Option ℕ) (s : Signals) : Type 0 where
+-- these signals are those of heads, with this preempt in service; there are 16 heads, and as many overlaps as a line shows
+pub record Shows (is_wide : Bool) (heads : Heads) (served : Option ℕ) (s : Signals) : Type 0 where
   pub greens : (p : ℕ) → 1 ≤ p → p ≤ 16 → is_green s p ≡ monitor.is_green (heads.vehicle p)
   pub yellows : (p : ℕ) → 1 ≤ p → p ≤ 16 → is_yellow s p ≡ colours.is_yellow (heads.vehicle p)
   pub flashing : (p : ℕ) → 1 ≤ p → p ≤ 16 → has_number s.vehicles.flashing p ≡ colours.is_flashing (heads.vehicle p)
   pub few_flashing : (p : ℕ) → 16 < p → has_number s.vehicles.flashing p ≡ false
   pub walks : (p : ℕ) → 1 ≤ p → p ≤ 16 → is_walk s p ≡ colours.shows_walk (heads.pedestrian p)
   pub clearances : (p : ℕ) → 1 ≤ p → p ≤ 16 → is_clearance s p ≡ colours.shows_clearance (heads.pedestrian p)
-  pub overlap_greens : (o : ℕ) → 1 ≤ o → o ≤ 4 → is_overlap_green s o ≡ monitor.is_green (heads.overlap o)
-  pub overlap_yellows : (o : ℕ) → 1 ≤ o → o ≤ 4 → is_overlap_yellow s o ≡ colours.is_yellow (heads.overlap o)
-  pub few_overlap_greens : (o : ℕ) → 4 < o → is_overlap_green s o ≡ false
-  pub few_overlap_yellows : (o : ℕ) → 4 < o → is_overlap_yellow s o ≡ false
+  pub overlap_greens : (o : ℕ) → 1 ≤ o → o ≤ overlaps_in is_wide → is_overlap_green s o ≡ monitor.is_green (heads.overlap o)
+  pub overlap_yellows : (o : ℕ) → 1 ≤ o → o ≤ overlaps_in is_wide → is_overlap_yellow s o ≡ colours.is_yellow (heads.overlap o)
+  pub few_overlap_greens : (o : ℕ) → overlaps_in is_wide < o → is_overlap_green s o ≡ false
+  pub few_overlap_yellows : (o : ℕ) → overlaps_in is_wide < o → is_overlap_yellow s o ≡ false
   pub preempt : s.preempt ≡ served
 
 -- a head has the letter of what it shows
@@ -80,22 +81,23 @@ beyond code spell n letters is (suc k) above =
     ap (λ (bs : List ℕ). has_number (heads_with code bs) (suc k)) is
     ∙ names-beyond code (map spell (run_from 1 n)) k (omega (arith, whole, above))
 
-shows : (now : ℕ) (heads : Heads) (preempt local : Option ℕ) (line : List ℕ) → IfSome preempt (λ n. (1 ≤ n) × (n ≤ 4)) →
-    Fields now heads preempt local line → Shows heads preempt (signals_of line)
-shows now heads preempt local line known is_line = record {
+shows : (is_wide : Bool) (now : ℕ) (heads : Heads) (preempt local : Option ℕ) (line : List ℕ) → IfSome preempt (λ n. (1 ≤ n) × (n ≤ PREEMPTS)) →
+    Fields is_wide now heads preempt local line → Shows is_wide heads preempt (signals_of is_wide line)
+shows is_wide now heads preempt local line known is_line = record {
   greens = spelled 71 letter monitor.is_green letter-green heads.vehicle 16 _ is_line.vehicles;
   yellows = spelled 89 letter colours.is_yellow letter-yellow heads.vehicle 16 _ is_line.vehicles;
   flashing = spelled 70 letter colours.is_flashing letter-flashing heads.vehicle 16 _ is_line.vehicles;
   few_flashing = beyond 70 (λ p. letter (heads.vehicle p)) 16 _ is_line.vehicles;
   walks = spelled 87 pedestrian_letter colours.shows_walk letter-walk heads.pedestrian 16 _ is_line.pedestrians;
   clearances = spelled 67 pedestrian_letter colours.shows_clearance letter-clearance heads.pedestrian 16 _ is_line.pedestrians;
-  overlap_greens = spelled 71 letter monitor.is_green letter-green heads.overlap 4 _ is_line.overlaps;
-  overlap_yellows = spelled 89 letter colours.is_yellow letter-yellow heads.overlap 4 _ is_line.overlaps;
-  few_overlap_greens = beyond 71 (λ o. letter (heads.overlap o)) 4 _ is_line.overlaps;
-  few_overlap_yellows = beyond 89 (λ o. letter (heads.overlap o)) 4 _ is_line.overlaps;
+  overlap_greens = spelled 71 letter monitor.is_green letter-green heads.overlap (overlaps_in is_wide) _ is_line.overlaps;
+  overlap_yellows = spelled 89 letter colours.is_yellow letter-yellow heads.overlap (overlaps_in is_wide) _ is_line.overlaps;
+  few_overlap_greens = beyond 71 (λ o. letter (heads.overlap o)) (overlaps_in is_wide) _ is_line.overlaps;
+  few_overlap_yellows = beyond 89 (λ o. letter (heads.overlap o)) (overlaps_in is_wide) _ is_line.overlaps;
   preempt = ap preempt_of is_line.served ∙ preempt-read preempt known;
 }
 
-pub line-shows : (now : ℕ) (heads : Heads) (preempt local : Option ℕ) → IfSome preempt (λ n. (1 ≤ n) × (n ≤ 4)) →
-    Shows heads preempt (signals_of (line_of now heads preempt local))
-line-shows now heads preempt local known = shows now heads preempt local (line_of now heads preempt local) known (fields now heads preempt local)
+pub line-shows : (is_wide : Bool) (now : ℕ) (heads : Heads) (preempt local : Option ℕ) → IfSome preempt (λ n. (1 ≤ n) × (n ≤ PREEMPTS)) →
+    Shows is_wide heads preempt (signals_of is_wide (line_in is_wide now heads preempt local))
+line-shows is_wide now heads preempt local known =
+    shows is_wide now heads preempt local (line_in is_wide now heads preempt local) known (fields is_wide now heads preempt local)

@@ -8,11 +8,12 @@ use Rattle.tsb_types.proofs.RunLemmas.{among-run}
 use Rattle.tsb_types.proofs.SetLemmas.{names-zero}
 use Rattle.tsb_types.proofs.FirstLemmas.{first-none}
 use Rattle.tsb_types.specs.declared.event.Event.{Event}
+use Rattle.tsb_types.specs.declared.limits.TheConstants.{VEHICLE_DETECTORS}
 use Rattle.tsb_field_display.specs.declared.shown.Shown.{Shown}
 use Rattle.tsb_field_display.specs.declared.shown.Signals.{Signals}
 use Rattle.tsb_field_display.specs.Shows.{nothing_lit, is_same, AreApart}
 use Rattle.tsb_field_display.specs.Remaining.{changes_after}
-use Rattle.tsb_types.specs.Events.{event, told, numbers_with, begins, ends, either}
+use Rattle.tsb_types.specs.Events.{event, told, told_detectors, numbers_with, detectors_with, begins, ends, either}
 use Rattle.tsb_field_display.specs.Events.{events_of, events_after, events_of_lines, vehicle_events, pedestrian_events, overlap_events, preempt_events, flash_events, is_in_flash, is_green, is_yellow, is_walk, is_clearance, is_overlap_green, is_overlap_yellow}
 use Rattle.tsb_field_display.specs.ReadBack.{said_or, lit_after, says_at, says_green, says_yellow, says_walk, says_clearance, says_overlap_green, says_overlap_yellow, says_flash}
 use Rattle.tsb_field_display.specs.Laws.{AreAllApart, ComeOfChanges, TellTheHeads}
@@ -101,6 +102,15 @@ lit-told by_code p lit tick code test from within =
     ∙ ap (λ (b : Bool). effect (by_code code) b lit)
     (among-filter test p (run_from 1 16) ∙ ap (λ (b : Bool). test p && b) (among-run p 1 16 from (omega (arith, within))) ∙ and-true (test p))
 
+-- of a vehicle detector too
+lit-detectors : (by_code : ℕ → Option Bool) (d : ℕ) (lit : Bool) (tick code : ℕ) (test : ℕ → Bool) → 1 ≤ d → d ≤ VEHICLE_DETECTORS →
+    lit_after (says_at by_code d) lit (told_detectors tick code test) ≡ effect (by_code code) (test d) lit
+lit-detectors by_code d lit tick code test from within =
+    lit-among by_code d lit tick code (detectors_with test)
+    ∙ ap (λ (b : Bool). effect (by_code code) b lit)
+    (among-filter test d (run_from 1 VEHICLE_DETECTORS) ∙ ap (λ (b : Bool). test d && b) (among-run d 1 VEHICLE_DETECTORS from (omega (arith, within)))
+    ∙ and-true (test d))
+
 -- ## What the events of a change say
 
 -- events lead from what was lit to what is
@@ -120,6 +130,17 @@ leads says lit es last e = record { is_lit = e }
 pub leads-told : (by_code : ℕ → Option Bool) (p : ℕ) (lit : Bool) (tick code : ℕ) (test : ℕ → Bool) → 1 ≤ p → p ≤ 16 →
     Leads (says_at by_code p) lit (told tick code test) (effect (by_code code) (test p) lit)
 leads-told by_code p lit tick code test from within = record { is_lit = lit-told by_code p lit tick code test from within }
+
+pub leads-detectors : (by_code : ℕ → Option Bool) (d : ℕ) (lit : Bool) (tick code : ℕ) (test : ℕ → Bool) → 1 ≤ d → d ≤ VEHICLE_DETECTORS →
+    Leads (says_at by_code d) lit (told_detectors tick code test) (effect (by_code code) (test d) lit)
+leads-detectors by_code d lit tick code test from within = record { is_lit = lit-detectors by_code d lit tick code test from within }
+
+-- what a code says nothing of stays as it is
+pub leads-quiet : (by_code : ℕ → Option Bool) (p : ℕ) (lit : Bool) (tick code : ℕ) (ns : List ℕ) → by_code code ≡ None →
+    Leads (says_at by_code p) lit (map (λ n. event tick code n) ns) lit
+leads-quiet by_code p lit tick code ns none = record {
+  is_lit = lit-among by_code p lit tick code ns ∙ ap (λ (said : Option Bool). effect said (among p ns) lit) none;
+}
 
 quiet : (by_code : ℕ → Option Bool) (p tick code n : ℕ) → by_code code ≡ None → says_at by_code p (event tick code n) ≡ None
 quiet by_code p tick code n e = rw e (both (n == p))

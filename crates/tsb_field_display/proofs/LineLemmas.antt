@@ -1,21 +1,22 @@
 -- What is read of a display line is what it shows.
-use Rattle.std.proofs.Common.{◌≡◌, ◌∙◌, ℕ, ◌+◌, ◌-◌, ◌/◌, ◌%◌, ◌<◌, ◌≤◌, ◌==◌, nat_le, Bool, true, false, ◌&&◌, zero, suc, List, [], ◌∷◌, map, length, slice_index, codes, Option, Some, None, IfSome, if◌then◌else◌, refl, ap, arith}
+use Rattle.std.proofs.Common.{◌≡◌, ◌∙◌, ℕ, ◌+◌, ◌-◌, ◌/◌, ◌%◌, ◌<◌, ◌≤◌, ◌==◌, nat_le, Bool, true, false, ◌&&◌, zero, suc, List, [], ◌∷◌, map, length, slice_index, codes, Option, Some, None, IfSome, if◌then◌else◌, refl, sym, ap, arith}
 use Rattle.std.specs.List.{list_all}
-use Rattle.std.proofs.lemmas.Bool.{and_from, eq-eqb, ne_eqb, le-leb}
+use Rattle.std.proofs.lemmas.Bool.{and_from, eq-eqb, ne_eqb, le-leb, true≢false}
 use Rattle.tsb_lines.specs.Words.{number_of}
 use Rattle.tsb_lines.proofs.DigitLemmas.{seven-digits-read}
 use Rattle.tsb_types.proofs.RunLemmas.{at-run}
 use Rattle.tsb_types.specs.Lists.{run_from, among}
 use Rattle.tsb_types.specs.Sets.{has_number}
+use Rattle.tsb_types.specs.declared.limits.TheConstants.{PREEMPTS}
 use Rattle.tsb_types.specs.declared.lamp.Aspect.{Aspect}
 use Rattle.tsb_types.specs.declared.lamp.Aspect.TheVariants.{Dark, Red, Yellow, Green, FlashingRed}
 use Rattle.tsb_types.specs.declared.lamp.PedestrianAspect.{PedestrianAspect}
 use Rattle.tsb_types.specs.declared.lamp.PedestrianAspect.TheVariants as pedestrian_aspects
 use Rattle.tsb_display_text.specs.tsb_heads.Heads.{Heads}
 use Rattle.tsb_lines.specs.Digits.{digit}
-use Rattle.tsb_display_text.specs.Line.{line_of, letter, pedestrian_letter, tick_field, vehicle_field, pedestrian_field, overlap_field, local_field, preempt_digit}
+use Rattle.tsb_display_text.specs.Line.{line_in, line_of, wide_line_of, letter, pedestrian_letter, tick_field, vehicle_field, pedestrian_field, overlap_field, local_field, preempt_digit}
 use Rattle.tsb_field_display.specs.Shows.{aspect_of, pedestrian_aspect_of}
-use Rattle.tsb_field_display.specs.Reading.{heads_with, vehicles_of, pedestrians_of, is_spelled, is_preempt, preempt_of, is_local, field, has_space, is_display, signals_of, shown_at, shown_of}
+use Rattle.tsb_field_display.specs.Reading.{heads_with, vehicles_of, pedestrians_of, is_spelled, is_preempt, preempt_of, is_local, field, has_space, is_display, is_whole, overlap_letters, overlaps_in, signals_of, shown_at, shown_of}
 use Rattle.tsb_field_display.specs.Laws.{Tells, AreRead}
 use Rattle.tsb_field_display.proofs.LetterLemmas.{names-letter}
 
@@ -55,11 +56,11 @@ local-digits (Some n) =
     all-mapped (λ b. nat_le 48 b && nat_le b 57) (digit n) (1000 ∷ 100 ∷ 10 ∷ 1 ∷ []) (is-digit n) in
     rw digits refl
 
-preempt-digit : (preempt : Option ℕ) → IfSome preempt (λ n. (1 ≤ n) × (n ≤ 4)) → is_preempt (preempt_digit preempt) ≡ true
+preempt-digit : (preempt : Option ℕ) → IfSome preempt (λ n. (1 ≤ n) × (n ≤ PREEMPTS)) → is_preempt (preempt_digit preempt) ≡ true
 preempt-digit None known = refl
-preempt-digit (Some n) known = and_from _ _ (le-leb 48 (48 + n) (omega arith)) (le-leb (48 + n) 52 (omega (arith, known.1)))
+preempt-digit (Some n) known = and_from _ _ (le-leb 48 (48 + n) (omega arith)) (le-leb (48 + n) (48 + PREEMPTS) (omega (arith, known.1)))
 
-pub preempt-read : (preempt : Option ℕ) → IfSome preempt (λ n. (1 ≤ n) × (n ≤ 4)) → preempt_of (preempt_digit preempt) ≡ preempt
+pub preempt-read : (preempt : Option ℕ) → IfSome preempt (λ n. (1 ≤ n) × (n ≤ PREEMPTS)) → preempt_of (preempt_digit preempt) ≡ preempt
 preempt-read None known = refl
 preempt-read (Some n) known =
     let other : (48 + n == 48) ≡ false = ne_eqb (48 + n) 48 (λ e. absurd (omega (arith, e, known.0))) in
@@ -115,60 +116,125 @@ pedestrians-read f n p from within =
 
 -- ## The line
 
-pub record Fields (now : ℕ) (heads : Heads) (preempt local : Option ℕ) (line : List ℕ) : Type 0 where
-  pub wide : length line ≡ 53
+pub record Fields (is_wide : Bool) (now : ℕ) (heads : Heads) (preempt local : Option ℕ) (line : List ℕ) : Type 0 where
+  pub long : length line ≡ (if is_wide then 70 else 53)
   pub spaced : (has_space 7 line && has_space 24 line && has_space 41 line && has_space 46 line && has_space 48 line) ≡ true
+  pub behind : is_wide ≡ true → has_space 53 line ≡ true
   pub tick : field 0 7 line ≡ tick_field now
   pub vehicles : field 8 16 line ≡ vehicle_field heads.vehicle
   pub pedestrians : field 25 16 line ≡ pedestrian_field heads.pedestrian
-  pub overlaps : field 42 4 line ≡ overlap_field heads.overlap
+  pub first_overlaps : field 42 4 line ≡ overlap_field heads.overlap
+  pub overlaps : overlap_letters is_wide line ≡ map (λ o. letter (heads.overlap o)) (run_from 1 (overlaps_in is_wide))
   pub served : slice_index line 47 ≡ preempt_digit preempt
   pub counter : field 49 4 line ≡ local_field local
 
-pub fields : (now : ℕ) (heads : Heads) (preempt local : Option ℕ) → Fields now heads preempt local (line_of now heads preempt local)
+narrow-fields : (now : ℕ) (heads : Heads) (preempt local : Option ℕ) → Fields false now heads preempt local (line_of now heads preempt local)
 unfolding line_of run_from
-fields now heads preempt None =
-    record { wide = refl; spaced = refl; tick = refl; vehicles = refl; pedestrians = refl; overlaps = refl; served = refl; counter = refl }
-fields now heads preempt (Some n) =
-    record { wide = refl; spaced = refl; tick = refl; vehicles = refl; pedestrians = refl; overlaps = refl; served = refl; counter = refl }
+narrow-fields now heads preempt None = record {
+  long = refl;
+  spaced = refl;
+  behind = λ e. absurd (true≢false (sym e));
+  tick = refl;
+  vehicles = refl;
+  pedestrians = refl;
+  first_overlaps = refl;
+  overlaps = refl;
+  served = refl;
+  counter = refl;
+}
+narrow-fields now heads preempt (Some n) = record {
+  long = refl;
+  spaced = refl;
+  behind = λ e. absurd (true≢false (sym e));
+  tick = refl;
+  vehicles = refl;
+  pedestrians = refl;
+  first_overlaps = refl;
+  overlaps = refl;
+  served = refl;
+  counter = refl;
+}
 
-all-eleven : (a b c d e f g h i j k : Bool) → a ≡ true → (b && c && d && e && f) ≡ true → g ≡ true → h ≡ true → i ≡ true → j ≡ true → k ≡ true →
-    (a && b && c && d && e && f && g && h && i && j && k) ≡ true
-all-eleven a b c d e f g h i j k pa pb pg ph pi pj pk = rw (pa, pg, ph, pi, pj, pk) (rw pb refl)
+wide-fields : (now : ℕ) (heads : Heads) (preempt local : Option ℕ) → Fields true now heads preempt local (wide_line_of now heads preempt local)
+unfolding wide_line_of line_of run_from
+wide-fields now heads preempt None = record {
+  long = refl;
+  spaced = refl;
+  behind = λ e. refl;
+  tick = refl;
+  vehicles = refl;
+  pedestrians = refl;
+  first_overlaps = refl;
+  overlaps = refl;
+  served = refl;
+  counter = refl;
+}
+wide-fields now heads preempt (Some n) = record {
+  long = refl;
+  spaced = refl;
+  behind = λ e. refl;
+  tick = refl;
+  vehicles = refl;
+  pedestrians = refl;
+  first_overlaps = refl;
+  overlaps = refl;
+  served = refl;
+  counter = refl;
+}
 
-display : (now : ℕ) (heads : Heads) (preempt local : Option ℕ) (line : List ℕ) → IfSome preempt (λ n. (1 ≤ n) × (n ≤ 4)) →
-    Fields now heads preempt local line → is_display line ≡ true
+pub fields : (is_wide : Bool) (now : ℕ) (heads : Heads) (preempt local : Option ℕ) → Fields is_wide now heads preempt local (line_in is_wide now heads preempt local)
+fields true now heads preempt local = wide-fields now heads preempt local
+fields false now heads preempt local = narrow-fields now heads preempt local
+
+-- letters of heads are letters
+spelled : (f : ℕ → Aspect) (ns : List ℕ) (letters : List ℕ) → letters ≡ map (λ n. letter (f n)) ns → is_spelled (codes "-RYGF") letters ≡ true
+spelled f ns letters e =
+    ap (is_spelled (codes "-RYGF")) e ∙ all-mapped (λ b. among b (codes "-RYGF")) (λ n. letter (f n)) ns (λ n. spelled-letter (f n))
+
+whole : (is_wide : Bool) (now : ℕ) (heads : Heads) (preempt local : Option ℕ) (line : List ℕ) → Fields is_wide now heads preempt local line →
+    is_whole is_wide line ≡ true
+whole true now heads preempt local line is_line =
+    and_from _ _ (and_from _ _ (eq-eqb _ _ is_line.long) (is_line.behind refl)) (spelled heads.overlap (run_from 1 16) (field 54 16 line) is_line.overlaps)
+whole false now heads preempt local line is_line = eq-eqb _ _ is_line.long
+
+all-ten : (b c d e f g h i j k : Bool) → (b && c && d && e && f) ≡ true → g ≡ true → h ≡ true → i ≡ true → j ≡ true → k ≡ true →
+    (b && c && d && e && f && g && h && i && j && k) ≡ true
+all-ten b c d e f g h i j k pb pg ph pi pj pk = rw (pg, ph, pi, pj, pk) (rw pb refl)
+
+display : (is_wide : Bool) (now : ℕ) (heads : Heads) (preempt local : Option ℕ) (line : List ℕ) → IfSome preempt (λ n. (1 ≤ n) × (n ≤ PREEMPTS)) →
+    Fields is_wide now heads preempt local line → is_display line ≡ true
 unfolding is_display
-display now heads preempt local line known is_line =
-    all-eleven _ _ _ _ _ _ _ _ _ _ _ (eq-eqb _ _ is_line.wide) is_line.spaced
-    (ap (is_spelled (codes "-RYGF")) is_line.vehicles ∙ all-mapped (λ b. among b (codes "-RYGF")) (λ p. letter (heads.vehicle p)) (run_from 1 16) (λ p. spelled-letter (heads.vehicle p)))
+display is_wide now heads preempt local line known is_line =
+    all-ten (has_space 7 line) (has_space 24 line) (has_space 41 line) (has_space 46 line) (has_space 48 line) _ _ _ _ _ is_line.spaced
+    (spelled heads.vehicle (run_from 1 16) (field 8 16 line) is_line.vehicles)
     (ap (is_spelled (codes "-DCW")) is_line.pedestrians ∙ all-mapped (λ b. among b (codes "-DCW")) (λ p. pedestrian_letter (heads.pedestrian p)) (run_from 1 16) (λ p. spelled-pedestrian_letter (heads.pedestrian p)))
-    (ap (is_spelled (codes "-RYGF")) is_line.overlaps ∙ all-mapped (λ b. among b (codes "-RYGF")) (λ p. letter (heads.overlap p)) (run_from 1 4) (λ p. spelled-letter (heads.overlap p)))
+    (spelled heads.overlap (run_from 1 4) (field 42 4 line) is_line.first_overlaps)
     (ap is_preempt is_line.served ∙ preempt-digit preempt known)
     (ap is_local is_line.counter ∙ local-digits local)
 
-tells : (now : ℕ) (heads : Heads) (preempt local : Option ℕ) (line : List ℕ) → IfSome preempt (λ n. (1 ≤ n) × (n ≤ 4)) →
-    Fields now heads preempt local line → Tells (record { tick = now; signals = signals_of line }) now heads preempt
-tells now heads preempt local line known is_line = record {
+tells : (is_wide : Bool) (now : ℕ) (heads : Heads) (preempt local : Option ℕ) (line : List ℕ) → IfSome preempt (λ n. (1 ≤ n) × (n ≤ PREEMPTS)) →
+    Fields is_wide now heads preempt local line → Tells is_wide (record { tick = now; signals = signals_of is_wide line }) now heads preempt
+tells is_wide now heads preempt local line known is_line = record {
   tick = refl;
   vehicles = λ p from within. ap (λ (bs : List ℕ). aspect_of (vehicles_of bs) p) is_line.vehicles ∙ heads-read heads.vehicle 16 p from within;
   pedestrians = λ p from within. ap (λ (bs : List ℕ). pedestrian_aspect_of (pedestrians_of bs) p) is_line.pedestrians ∙ pedestrians-read heads.pedestrian 16 p from within;
-  overlaps = λ o from within. ap (λ (bs : List ℕ). aspect_of (vehicles_of bs) o) is_line.overlaps ∙ heads-read heads.overlap 4 o from within;
+  overlaps = λ o from within. ap (λ (bs : List ℕ). aspect_of (vehicles_of bs) o) is_line.overlaps ∙ heads-read heads.overlap (overlaps_in is_wide) o from within;
   preempt = ap preempt_of is_line.served ∙ preempt-read preempt known;
 }
 
-pub read : (now : ℕ) (heads : Heads) (preempt local : Option ℕ) (line : List ℕ) → now < 10000000 → IfSome preempt (λ n. (1 ≤ n) × (n ≤ 4)) →
-    Fields now heads preempt local line → shown_of line ≡ Some (record { tick = now; signals = signals_of line })
+pub read : (is_wide : Bool) (now : ℕ) (heads : Heads) (preempt local : Option ℕ) (line : List ℕ) → now < 10000000 → IfSome preempt (λ n. (1 ≤ n) × (n ≤ PREEMPTS)) →
+    Fields is_wide now heads preempt local line → shown_of is_wide line ≡ Some (record { tick = now; signals = signals_of is_wide line })
 unfolding shown_of
-read now heads preempt local line small known is_line =
-    rw (display now heads preempt local line known is_line)
-    (ap (λ (o : Option ℕ). shown_at o (signals_of line)) (ap number_of is_line.tick ∙ tick-number now small))
+read is_wide now heads preempt local line small known is_line =
+    ap (λ (b : Bool). if b then shown_at (number_of (field 0 7 line)) (signals_of is_wide line) else None)
+    (and_from _ _ (whole is_wide now heads preempt local line is_line) (display is_wide now heads preempt local line known is_line))
+    ∙ ap (λ (o : Option ℕ). shown_at o (signals_of is_wide line)) (ap number_of is_line.tick ∙ tick-number now small)
 
 pub are-read : AreRead
-are-read now heads preempt local small known =
-    let line : List ℕ = line_of now heads preempt local in
-    let is_line = fields now heads preempt local in (
-      record { tick = now; signals = signals_of line },
-      read now heads preempt local line small known is_line,
-      tells now heads preempt local line known is_line,
+are-read is_wide now heads preempt local small known =
+    let line : List ℕ = line_in is_wide now heads preempt local in
+    let is_line = fields is_wide now heads preempt local in (
+      record { tick = now; signals = signals_of is_wide line },
+      read is_wide now heads preempt local line small known is_line,
+      tells is_wide now heads preempt local line known is_line,
     )

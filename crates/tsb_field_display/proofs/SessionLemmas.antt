@@ -12,7 +12,8 @@ use Rattle.tsb_types.specs.declared.event.Event.{Event}
 use Rattle.tsb_field_display.specs.declared.shown.Shown.{Shown}
 use Rattle.tsb_field_display.specs.declared.shown.Signals.{Signals}
 use Rattle.tsb_field_display.specs.Shows.{nothing_lit}
-use Rattle.tsb_types.specs.Events.{event, told, numbers_with}
+use Rattle.tsb_types.specs.declared.limits.TheConstants.{VEHICLE_DETECTORS}
+use Rattle.tsb_types.specs.Events.{event, told, told_detectors, numbers_with, detectors_with}
 use Rattle.tsb_field_display.specs.Events.{events_of, events_after, events_of_lines, preempt_events, flash_events, is_in_flash}
 use Rattle.tsb_field_display.specs.Remaining.{Rises}
 use Rattle.tsb_field_display.specs.Inputs.{events_of_row, events_behind, events_of_rows}
@@ -38,9 +39,14 @@ any-number : (Q : ℕ → Type 0) → ((n : ℕ) → Q n) → (ns : List ℕ) �
 any-number Q q [] = All-nil Q
 any-number Q q (n ∷ ns) = All-cons Q n ns (q n) (any-number Q q ns)
 
+each-of : (P : Event → Type 0) (tick code : ℕ) (ns : List ℕ) → ((n : ℕ) → P (event tick code n)) → Each P (map (λ n. event tick code n) ns)
+each-of P tick code ns it = record { all = All-map P (λ n. event tick code n) ns (any-number (λ n. P (event tick code n)) it ns) }
+
 each-told : (P : Event → Type 0) (tick code : ℕ) (test : ℕ → Bool) → ((n : ℕ) → P (event tick code n)) → Each P (told tick code test)
-each-told P tick code test it =
-    record { all = All-map P (λ n. event tick code n) (numbers_with test) (any-number (λ n. P (event tick code n)) it (numbers_with test)) }
+each-told P tick code test it = each-of P tick code (numbers_with test) it
+
+each-detectors : (P : Event → Type 0) (tick code : ℕ) (test : ℕ → Bool) → ((n : ℕ) → P (event tick code n)) → Each P (told_detectors tick code test)
+each-detectors P tick code test it = each-of P tick code (detectors_with test) it
 
 each-preempt : (P : Event → Type 0) (before now : Option ℕ) (tick : ℕ) → ((n : ℕ) → P (event tick 105 n)) → Each P (preempt_events before tick now)
 each-preempt P before None tick it = none P
@@ -71,7 +77,7 @@ each-row before now =
     let P : Event → Type 0 = λ e. is_of_input e ≡ true in
     let t : ℕ = now.tick in
     join (join
-    (join (each-told P t 81 _ (λ n. refl)) (each-told P t 82 _ (λ n. refl)))
+    (join (each-detectors P t 81 _ (λ n. refl)) (each-detectors P t 82 _ (λ n. refl)))
     (join (each-told P t 89 _ (λ n. refl)) (each-told P t 90 _ (λ n. refl))))
     (join (each-told P t 102 _ (λ n. refl)) (each-told P t 104 _ (λ n. refl)))
 
@@ -167,11 +173,17 @@ run-order at code test a (suc n) =
     ))
     (λ _. run-order at code test (a + 1) n)
 
-block-told : (at code : ℕ) (test : ℕ → Bool) → IsBlock at code code (told at code test)
-block-told at code test = record {
-  within = (each-told (IsIn at code code) at code test (λ n. record { tick = refl; low = omega arith; high = omega arith })).all;
-  order = run-order at code test 1 16;
+block-run : (at code : ℕ) (test : ℕ → Bool) (most : ℕ) → IsBlock at code code (map (λ n. event at code n) (filter test (run_from 1 most)))
+block-run at code test most = record {
+  within = (each-of (IsIn at code code) at code (filter test (run_from 1 most)) (λ n. record { tick = refl; low = omega arith; high = omega arith })).all;
+  order = run-order at code test 1 most;
 }
+
+block-told : (at code : ℕ) (test : ℕ → Bool) → IsBlock at code code (told at code test)
+block-told at code test = block-run at code test 16
+
+block-detectors : (at code : ℕ) (test : ℕ → Bool) → IsBlock at code code (told_detectors at code test)
+block-detectors at code test = block-run at code test VEHICLE_DETECTORS
 
 block-preempt : (before now : Option ℕ) (at : ℕ) → IsBlock at 105 105 (preempt_events before at now)
 block-preempt before None at = block-none at 105 105
@@ -206,7 +218,7 @@ unfolding events_of_row
 block-row before now =
     let t : ℕ = now.tick in
     next refl (next refl
-    (next refl (block-told t 81 _) (block-told t 82 _))
+    (next refl (block-detectors t 81 _) (block-detectors t 82 _))
     (next refl (block-told t 89 _) (block-told t 90 _)))
     (next refl (block-told t 102 _) (block-told t 104 _))
 

@@ -1,17 +1,17 @@
 -- The events of inputs, of the rows of a log. Their codes are those of the Indiana Traffic Signal Hi Resolution Data
 -- Logger Enumerations, and their parameters are the numbers of the inputs.
 use Rattle.std.specs.Prelude.{ℕ, List, [], ◌∷◌, ◌++◌}
-use Rattle.tsb_types.specs.Sets.{all_off, has_number}
+use Rattle.tsb_types.specs.Sets.{all_off, has_detector, has_number}
 use Rattle.tsb_types.specs.declared.row.Row.{Row}
 use Rattle.tsb_log_text.specs.declared.log.LogRow.{LogRow}
 use Rattle.tsb_types.specs.declared.event.Event.{Event}
-use Rattle.tsb_types.specs.Events.{begins, ends, told}
+use Rattle.tsb_types.specs.Events.{begins, ends, told, told_detectors}
 
 -- of vehicle detectors: 81 one goes off, 82 one goes on
 abbrev pub vehicle_input_events : Row → ℕ → Row → List Event
 vehicle_input_events before tick now =
-    told tick 81 (ends (has_number before.vehicles) (has_number now.vehicles))
-    ++ told tick 82 (begins (has_number before.vehicles) (has_number now.vehicles))
+    told_detectors tick 81 (ends (has_detector before.vehicles) (has_detector now.vehicles))
+    ++ told_detectors tick 82 (begins (has_detector before.vehicles) (has_detector now.vehicles))
 
 -- of pedestrian detectors: 89 one goes off, 90 one goes on
 abbrev pub pedestrian_input_events : Row → ℕ → Row → List Event

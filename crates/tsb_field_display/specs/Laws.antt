@@ -1,28 +1,29 @@
 -- What holds of display lines and their events, in words that do not retrace how they are found. Each law here is the
 -- contract of a function in src/laws.rt.
-use Rattle.std.specs.Prelude.{◌≡◌, ℕ, ◌<◌, ◌≤◌, List, [], ◌∷◌, ◌++◌, Option, Some, IfSome}
+use Rattle.std.specs.Prelude.{◌≡◌, ℕ, ◌<◌, ◌≤◌, Bool, List, [], ◌∷◌, ◌++◌, Option, Some, IfSome}
 use Rattle.tsb_display_text.specs.tsb_heads.Heads.{Heads}
-use Rattle.tsb_display_text.specs.Line.{line_of}
+use Rattle.tsb_display_text.specs.Line.{line_in}
+use Rattle.tsb_types.specs.declared.limits.TheConstants.{OVERLAPS, PREEMPTS}
 use Rattle.tsb_field_display.specs.declared.shown.Signals.{Signals}
 use Rattle.tsb_field_display.specs.declared.shown.Shown.{Shown}
 use Rattle.tsb_field_display.specs.Shows.{AreApart, aspect_of, pedestrian_aspect_of}
-use Rattle.tsb_field_display.specs.Reading.{shown_of}
+use Rattle.tsb_field_display.specs.Reading.{overlaps_in, shown_of}
 use Rattle.tsb_field_display.specs.Remaining.{changes_of}
 use Rattle.tsb_field_display.specs.Events.{events_of_lines, is_green, is_yellow, is_walk, is_clearance, is_overlap_green, is_overlap_yellow, is_in_flash}
 use Rattle.tsb_field_display.specs.ReadBack.{Lit, read_back}
 
--- it shows this tick, what these heads show, and this preempt in service
-pub record Tells (shown : Shown) (now : ℕ) (heads : Heads) (served : Option ℕ) : Type 0 where
+-- it shows this tick, what these heads show, and this preempt in service; of a wide line it is all overlaps
+pub record Tells (is_wide : Bool) (shown : Shown) (now : ℕ) (heads : Heads) (served : Option ℕ) : Type 0 where
   pub tick : shown.tick ≡ now
   pub vehicles : (p : ℕ) → 1 ≤ p → p ≤ 16 → aspect_of shown.signals.vehicles p ≡ heads.vehicle p
   pub pedestrians : (p : ℕ) → 1 ≤ p → p ≤ 16 → pedestrian_aspect_of shown.signals.pedestrians p ≡ heads.pedestrian p
-  pub overlaps : (o : ℕ) → 1 ≤ o → o ≤ 4 → aspect_of shown.signals.overlaps o ≡ heads.overlap o
+  pub overlaps : (o : ℕ) → 1 ≤ o → o ≤ overlaps_in is_wide → aspect_of shown.signals.overlaps o ≡ heads.overlap o
   pub preempt : shown.signals.preempt ≡ served
 
--- what is read of a display line is what it shows
+-- what is read of a display line, or of a wide one, is what it shows
 abbrev pub AreRead : Type 0
-AreRead = (now : ℕ) (heads : Heads) (preempt local : Option ℕ) → now < 10000000 → IfSome preempt (λ n. (1 ≤ n) × (n ≤ 8)) →
-    (shown : Shown) × (shown_of false (line_of now heads preempt local) ≡ Some shown) × Tells shown now heads preempt
+AreRead = (is_wide : Bool) (now : ℕ) (heads : Heads) (preempt local : Option ℕ) → now < 10000000 → IfSome preempt (λ n. (1 ≤ n) × (n ≤ PREEMPTS)) →
+    (shown : Shown) × (shown_of is_wide (line_in is_wide now heads preempt local) ≡ Some shown) × Tells is_wide shown now heads preempt
 
 -- lines that show the same as the line before have no events
 abbrev pub ComeOfChanges : Type 0
@@ -39,8 +40,8 @@ pub record IsLit (lit : Lit) (s : Signals) : Type 0 where
   pub yellow : (p : ℕ) → 1 ≤ p → p ≤ 16 → lit.yellow p ≡ is_yellow s p
   pub walk : (p : ℕ) → 1 ≤ p → p ≤ 16 → lit.walk p ≡ is_walk s p
   pub clearance : (p : ℕ) → 1 ≤ p → p ≤ 16 → lit.clearance p ≡ is_clearance s p
-  pub overlap_green : (o : ℕ) → 1 ≤ o → o ≤ 4 → lit.overlap_green o ≡ is_overlap_green s o
-  pub overlap_yellow : (o : ℕ) → 1 ≤ o → o ≤ 4 → lit.overlap_yellow o ≡ is_overlap_yellow s o
+  pub overlap_green : (o : ℕ) → 1 ≤ o → o ≤ OVERLAPS → lit.overlap_green o ≡ is_overlap_green s o
+  pub overlap_yellow : (o : ℕ) → 1 ≤ o → o ≤ OVERLAPS → lit.overlap_yellow o ≡ is_overlap_yellow s o
   pub flash : lit.flash ≡ is_in_flash s
 
 -- after the events of each line they tell what that line shows

@@ -75,12 +75,25 @@ is_display line =
     && is_spelled (codes "-RYGF") (field 8 16 line) && is_spelled (codes "-DCW") (field 25 16 line)
     && is_spelled (codes "-RYGPF") (field 42 4 line) && is_preempt (slice_index line 47) && is_local (field 49 4 line)
 
--- what the fields show, with these letters of overlaps
-abbrev pub signals_of : List ℕ → List ℕ → Signals
-signals_of overlaps line = record {
+-- a line has 53 bytes; a wide one has 70, with a space and letters behind those of a line
+abbrev pub is_whole : Bool → List ℕ → Bool
+is_whole is_wide line =
+    if is_wide then length line == 70 && has_space 53 line && is_spelled (codes "-RYGPF") (field 54 16 line) else length line == 53
+
+-- how many overlaps a line shows, or a wide one
+abbrev pub overlaps_in : Bool → ℕ
+overlaps_in is_wide = if is_wide then 16 else 4
+
+-- their letters: the fourth field, or the seventh of a wide line
+abbrev pub overlap_letters : Bool → List ℕ → List ℕ
+overlap_letters is_wide line = if is_wide then field 54 16 line else field 42 4 line
+
+-- what the fields show
+abbrev pub signals_of : Bool → List ℕ → Signals
+signals_of is_wide line = record {
   vehicles = vehicles_of (field 8 16 line);
   pedestrians = pedestrians_of (field 25 16 line);
-  overlaps = vehicles_of overlaps;
+  overlaps = vehicles_of (overlap_letters is_wide line);
   preempt = preempt_of (slice_index line 47);
 }
 
@@ -89,17 +102,8 @@ abbrev pub shown_at : Option ℕ → Signals → Option Shown
 shown_at None signals = None
 shown_at (Some t) signals = Some (record { tick = t; signals = signals })
 
--- what a line of 53 bytes shows: nothing where it is no display line, or where its first 7 bytes are no digits
-abbrev pub narrow_shown_of : List ℕ → Option Shown
-narrow_shown_of line =
-    if length line == 53 && is_display line then shown_at (number_of (field 0 7 line)) (signals_of (field 42 4 line) line) else None
-
--- the same of a wide line, which has 70
-unfoldable pub wide_shown_of : List ℕ → Option Shown
-wide_shown_of line =
-    if length line == 70 && is_display line && has_space 53 line && is_spelled (codes "-RYGPF") (field 54 16 line)
-    then shown_at (number_of (field 0 7 line)) (signals_of (field 54 16 line) line) else None
-
--- what a line shows, where lines are wide or not
+-- what a line shows, where lines are wide or not: nothing where it is no display line, or where its first 7 bytes are no
+-- digits
 unfoldable pub shown_of : Bool → List ℕ → Option Shown
-shown_of is_wide line = if is_wide then wide_shown_of line else narrow_shown_of line
+shown_of is_wide line =
+    if is_whole is_wide line && is_display line then shown_at (number_of (field 0 7 line)) (signals_of is_wide line) else None

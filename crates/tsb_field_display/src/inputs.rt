@@ -85,7 +85,12 @@ fn tell(events: &mut Vec<Event>, tick: u32, code: u8, numbers: NumberSet) -> Res
 }
 
 /// Adds an event for each detector of a set to others, the least first.
-fn tell_detectors(events: &mut Vec<Event>, tick: u32, code: u8, detectors: DetectorSet) -> Result<(), AllocError>
+fn tell_detectors(
+    events: &mut Vec<Event>,
+    tick: u32,
+    code: u8,
+    detectors: DetectorSet,
+) -> Result<(), AllocError>
     ensures { OnOk result (events.new.items ≡ events.old.items ++ told_detectors tick code (has_detector detectors)) }
 {
     let mut rest = detectors;

@@ -1,7 +1,7 @@
 //! Reading a display line.
 ghost use Rattle.std.specs.Prelude.{◌≡◌, ◌≤◌, ◌==◌, ◌&&◌, nat_le, true, length, slice_index, codes, IfSome};
 ghost use Rattle.std.specs.List.{list_all};
-ghost use Rattle.tsb_field_display.specs.Reading.{heads_with, is_display, is_local, is_preempt, is_spelled, list_with, pedestrians_of, preempt_of, shown_of, vehicles_of, wide_shown_of};
+ghost use Rattle.tsb_field_display.specs.Reading.{heads_with, is_display, is_local, is_preempt, is_spelled, is_whole, list_with, overlap_letters, pedestrians_of, preempt_of, shown_of, vehicles_of};
 ghost use Rattle.tsb_field_display.specs.Shows.{AreApart};
 
 use crate::shown::{PedestrianHeads, Shown, Signals, VehicleHeads};
@@ -12,16 +12,13 @@ use tsb_types::limits::PREEMPTS;
 
 /// What a display line shows, or `None` where the line is not one: a display line has 53 bytes, with a space between
 /// its fields, and digits and letters in their places. No other answer of a session is one. Where wide lines are read a
-/// display line has 70 bytes, and only those count: overlaps are those of its seventh field.
+/// display line has 70 bytes, and only those count: its overlaps are those of its seventh field.
 #[tactic(auto, unfolding(crate::specs::Reading::shown_of))]
 pub fn read_line(line: &[u8], is_wide: bool) -> Option<Shown>
     ensures shown { result ≡ shown_of is_wide line.now }
     ensures apart { IfSome result (λ s. AreApart s.signals) }
 {
-    if is_wide {
-        return read_wide(line);
-    }
-    if line.len() != WIDTH || !is_display(line) {
+    if !is_whole(line, is_wide) || !is_display(line) {
         return None;
     }
     let tick = number(&line[..7])?;
@@ -30,34 +27,39 @@ pub fn read_line(line: &[u8], is_wide: bool) -> Option<Shown>
         signals: Signals {
             vehicles: vehicles(&line[8..24]),
             pedestrians: pedestrians(&line[25..41]),
-            overlaps: vehicles(&line[42..46]),
+            overlaps: overlaps(line, is_wide),
             preempt: preempt(line[47]),
         },
     })
 }
 
-/// What a wide display line shows, or `None` where the line is not one.
-#[tactic(auto, unfolding(crate::specs::Reading::wide_shown_of))]
-fn read_wide(line: &[u8]) -> Option<Shown>
-    ensures shown { result ≡ wide_shown_of line.now }
-    ensures apart { IfSome result (λ s. AreApart s.signals) }
+/// Whether a line has the length of a display line; a wide line has a seventh field too.
+fn is_whole(line: &[u8], is_wide: bool) -> bool
+    ensures whole { result ≡ is_whole is_wide line.now }
+    ensures long { result ≡ true → 53 ≤ length line.now }
+    ensures wide { result ≡ true → is_wide ≡ true → length line.now ≡ 70 }
 {
-    if line.len() != WIDE || !is_display(line) || line[53] != b' ' || !are_overlaps(&line[54..70]) {
-        return None;
+    if is_wide {
+        line.len() == WIDE && line[53] == b' ' && are_overlaps(&line[54..70])
+    } else {
+        line.len() == WIDTH
     }
-    let tick = number(&line[..7])?;
-    Some(Shown {
-        tick,
-        signals: Signals {
-            vehicles: vehicles(&line[8..24]),
-            pedestrians: pedestrians(&line[25..41]),
-            overlaps: vehicles(&line[54..70]),
-            preempt: preempt(line[47]),
-        },
-    })
 }
 
-/// Whether all but the tick of a display line is in its place, as far as narrow lines have it.
+/// What the letters of overlaps show: those of the fourth field, or of the seventh of a wide line.
+fn overlaps(line: &[u8], is_wide: bool) -> VehicleHeads
+    requires long { 53 ≤ length line.now }
+    requires wide { is_wide ≡ true → length line.now ≡ 70 }
+    ensures { result ≡ vehicles_of (overlap_letters is_wide line.now) }
+{
+    if is_wide {
+        vehicles(&line[54..70])
+    } else {
+        vehicles(&line[42..46])
+    }
+}
+
+/// Whether all but the tick of a display line is in its place, in the first 53 bytes.
 #[tactic(auto, unfolding(crate::specs::Reading::is_display))]
 fn is_display(line: &[u8]) -> bool
     requires { 53 ≤ length line.now }

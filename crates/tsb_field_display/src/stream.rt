@@ -12,8 +12,8 @@ use std::io::Read;
 use tsb_display_text::WIDE;
 use tsb_lines::{KeptLine, Watched, cut_at_feed};
 
-/// How many bytes of a line are kept: those of a wide display line, the carriage return after them, and one more, by which
-/// a longer line is known.
+/// How many bytes of a line are kept: those of a wide display line, the carriage return after them, and one more, by
+/// which a longer line is known.
 const KEPT: usize = WIDE + 2;
 
 /// How many bytes one read asks for.
@@ -107,9 +107,9 @@ impl DisplayStream {
     }
 }
 
-/// Reads what a session answers, up to its end, and keeps what remains of its display lines, or of its wide ones. Other lines are skipped,
-/// however long. What follows the last line feed is a line too, and one carriage return at the end of a line is not
-/// part of it.
+/// Reads what a session answers, up to its end, and keeps what remains of its display lines, or of its wide ones. Other
+/// lines are skipped, however long. What follows the last line feed is a line too, and one carriage return at the end of
+/// a line is not part of it.
 ///
 /// `Read` comes exactly where a read fails or is interrupted, or after 2^64 - 1 reads, and `Memory` where there is none
 /// to keep a change. Nothing is read after either, and what was read until then is lost.

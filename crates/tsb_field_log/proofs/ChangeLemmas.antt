@@ -5,6 +5,7 @@ use Rattle.std.proofs.lemmas.Bool.Decides.{leb_tells, eqb_tells}
 use Rattle.tsb_types.specs.Sets.{is_same_row}
 use Rattle.tsb_types.specs.declared.row.Row.{Row}
 use Rattle.tsb_log_text.specs.Logs.{Rises, row_from}
+use Rattle.tsb_log_text.specs.ListText.{AreListed, IsListed}
 use Rattle.tsb_log_text.specs.LogText.{AreRows, IsFit}
 use Rattle.tsb_log_text.specs.declared.log.LogRow.{LogRow}
 use Rattle.tsb_types.proofs.SetLemmas.{same-row}
@@ -57,6 +58,15 @@ rising inputs before tick (suc count) last lt =
     (λ same. rising inputs (inputs tick) (suc tick) count last (omega (arith, lt))) (lt, rising inputs (inputs tick) (suc tick) count tick (omega arith))
 
 -- ## Rows that a line can spell
+
+pub are-listed : (inputs : ℕ → Row) (before : Row) (tick count : ℕ) → ((t : ℕ) → 1 ≤ t → t ≤ 6000000 → IsListed (record { tick = t; row = inputs t })) → 1 ≤ tick
+    → tick + count ≤ 6000001 → AreListed (changes inputs before tick count)
+unfolding changes
+are-listed inputs before tick zero listed one most = tt
+are-listed inputs before tick (suc count) listed one most =
+    by-change (λ rows. AreListed rows) tick before (inputs tick) (changes inputs (inputs tick) (suc tick) count)
+    (λ same. are-listed inputs (inputs tick) (suc tick) count listed (omega (arith, one)) (omega (arith, most)))
+    (listed tick one (omega (arith, most)), are-listed inputs (inputs tick) (suc tick) count listed (omega (arith, one)) (omega (arith, most)))
 
 pub are-rows : (inputs : ℕ → Row) (before : Row) (tick count : ℕ) → ((t : ℕ) → IsFit (inputs t)) → 1 ≤ tick → tick + count ≤ 6000001 → AreRows (changes inputs before tick count)
 unfolding changes

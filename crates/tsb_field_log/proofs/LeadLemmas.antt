@@ -5,10 +5,11 @@ use Rattle.std.proofs.lemmas.Bool.Decides.{leb_tells}
 use Rattle.std.proofs.lemmas.List.{drop_all}
 use Rattle.std.proofs.Math.Bool.{and-true}
 use Rattle.std.proofs.Math.Seq.{drop-cons}
-use Rattle.tsb_types.specs.Sets.{has_number, list_of, set_of_list}
+use Rattle.tsb_types.specs.Sets.{has_detector, has_number, list_of, names, set_of_detectors, set_of_list}
 use Rattle.tsb_types.specs.declared.row.Row.{Row}
+use Rattle.tsb_types.specs.declared.detector_set.DetectorSet.{DetectorSet}
 use Rattle.tsb_types.specs.declared.number_set.NumberSet.{NumberSet}
-use Rattle.tsb_types.proofs.SetLemmas.{same-list_of, same_numbers, names-list_of, names-above, list_of-below}
+use Rattle.tsb_types.proofs.SetLemmas.{same-list_of, same_detectors, same_numbers, names-list_of, names-above, list_of-below}
 use Rattle.tsb_field_log.specs.declared.inputs.InputKind.{InputKind}
 use Rattle.tsb_field_log.specs.declared.inputs.InputKind.TheVariants.{Vehicle, Pedestrian, Preempt}
 use Rattle.tsb_field_log.specs.declared.inputs.Wire.{Wire}
@@ -91,17 +92,17 @@ untouched-input from tick es e (w ∷ ws) kind number le lt =
     ap (λ (b : Bool). (is_same_kind w.kind kind && w.input == number && b) || input_on from ws (es ++ e ∷ []) tick kind number) (untouched-wire from tick es e w le lt)
     ∙ ap (λ (b : Bool). (is_same_kind w.kind kind && w.input == number && is_on_in from w tick es) || b) (untouched-input from tick es e ws kind number le lt)
 
-abbrev row_with : NumberSet → NumberSet → NumberSet → Row
+abbrev row_with : DetectorSet → NumberSet → NumberSet → Row
 row_with v p n = record { vehicles = v; pedestrians = p; preempts = n }
 
 -- rows of the same inputs are one
 lists-row : (a b : InputKind → ℕ → Bool) → ((kind : InputKind) (number : ℕ) → a kind number ≡ b kind number)
-    → row_with (set_of_list (list_of 16 (a Vehicle))) (set_of_list (list_of 8 (a Pedestrian))) (set_of_list (list_of 4 (a Preempt)))
-    ≡ row_with (set_of_list (list_of 16 (b Vehicle))) (set_of_list (list_of 8 (b Pedestrian))) (set_of_list (list_of 4 (b Preempt)))
+    → row_with (set_of_detectors (list_of 64 (a Vehicle))) (set_of_list (list_of 16 (a Pedestrian))) (set_of_list (list_of 8 (a Preempt)))
+    ≡ row_with (set_of_detectors (list_of 64 (b Vehicle))) (set_of_list (list_of 16 (b Pedestrian))) (set_of_list (list_of 8 (b Preempt)))
 lists-row a b same =
-    ap (λ (k : ℕ). row_with (set_of_list k) (set_of_list (list_of 8 (a Pedestrian))) (set_of_list (list_of 4 (a Preempt)))) (same-list_of 16 (a Vehicle) (b Vehicle) (λ p one most. same Vehicle p))
-    ∙ ap (λ (k : ℕ). row_with (set_of_list (list_of 16 (b Vehicle))) (set_of_list k) (set_of_list (list_of 4 (a Preempt)))) (same-list_of 8 (a Pedestrian) (b Pedestrian) (λ p one most. same Pedestrian p))
-    ∙ ap (λ (k : ℕ). row_with (set_of_list (list_of 16 (b Vehicle))) (set_of_list (list_of 8 (b Pedestrian))) (set_of_list k)) (same-list_of 4 (a Preempt) (b Preempt) (λ p one most. same Preempt p))
+    ap (λ (k : ℕ). row_with (set_of_detectors k) (set_of_list (list_of 16 (a Pedestrian))) (set_of_list (list_of 8 (a Preempt)))) (same-list_of 64 (a Vehicle) (b Vehicle) (λ p one most. same Vehicle p))
+    ∙ ap (λ (k : ℕ). row_with (set_of_detectors (list_of 64 (b Vehicle))) (set_of_list k) (set_of_list (list_of 8 (a Preempt)))) (same-list_of 16 (a Pedestrian) (b Pedestrian) (λ p one most. same Pedestrian p))
+    ∙ ap (λ (k : ℕ). row_with (set_of_detectors (list_of 64 (b Vehicle))) (set_of_list (list_of 16 (b Pedestrian))) (set_of_list k)) (same-list_of 8 (a Preempt) (b Preempt) (λ p one most. same Preempt p))
 
 pub untouched : (from tick : ℕ) (es : List InputEvent) (e : InputEvent) (wires : List Wire) → 1 ≤ tick → begin_of from (tick + 1) ≤ e.nanos → row_in from wires (es ++ e ∷ []) tick ≡ row_in from wires es tick
 unfolding row_in
@@ -194,32 +195,35 @@ pub row-all : (ls : List Lead) (i : ℕ) (row : Row) (kind : InputKind) (number 
 row-all ls i row kind number le was =
     sym (or-false (has_input row kind number)) ∙ ap (λ (v : List Lead). has_input row kind number || lead_on v kind number && is_input kind number) (sym (drop_all i ls le)) ∙ was
 
+-- the numbers of a list are those that pass the test
+list-has : (count list : ℕ) (test : ℕ → Bool) → ((n : ℕ) → names list n ≡ (test n && (leb 1 n && leb n count))) → (n : ℕ) → names list n ≡ names (list_of count test) n
+list-has count list test same zero = refl
+list-has count list test same (suc k) = elim (leb_tells (suc k) count) [
+  | inl z ↦
+      let one : leb 1 (suc k) ≡ true = le-leb 1 (suc k) (omega arith) in
+      same (suc k) ∙ ap (λ (b : Bool). test (suc k) && (b && leb (suc k) count)) one ∙ ap (λ (b : Bool). test (suc k) && b) z.0 ∙ and-true (test (suc k))
+      ∙ sym (names-list_of count (suc k) test (omega arith) z.1)
+  | inr z ↦
+      let one : leb 1 (suc k) ≡ true = le-leb 1 (suc k) (omega arith) in
+      same (suc k) ∙ ap (λ (b : Bool). test (suc k) && (b && leb (suc k) count)) one ∙ ap (λ (b : Bool). test (suc k) && b) z.0 ∙ and_right (test (suc k)) false refl
+      ∙ sym (names-above count (suc k) (list_of count test) (list_of-below count test) z.1)
+]
+
 -- the set that has these inputs
 set-is : (count : ℕ) (set : NumberSet) (test : ℕ → Bool) → set.word < 2 ^ 16 → list_of count test < 2 ^ 16 → ((n : ℕ) → has_number set n ≡ (test n && (leb 1 n && leb n count))) → set ≡ set_of_list (list_of count test)
-set-is count set test fits small same = same_numbers set (set_of_list (list_of count test)) fits small (λ n. at n)
-  where
-    at : (n : ℕ) → has_number set n ≡ has_number (set_of_list (list_of count test)) n
-    at zero = refl
-    at (suc k) = elim (leb_tells (suc k) count) [
-      | inl z ↦
-          let one : leb 1 (suc k) ≡ true = le-leb 1 (suc k) (omega arith) in
-          same (suc k) ∙ ap (λ (b : Bool). test (suc k) && (b && leb (suc k) count)) one ∙ ap (λ (b : Bool). test (suc k) && b) z.0 ∙ and-true (test (suc k))
-          ∙ sym (names-list_of count (suc k) test (omega arith) z.1)
-      | inr z ↦
-          let one : leb 1 (suc k) ≡ true = le-leb 1 (suc k) (omega arith) in
-          same (suc k) ∙ ap (λ (b : Bool). test (suc k) && (b && leb (suc k) count)) one ∙ ap (λ (b : Bool). test (suc k) && b) z.0 ∙ and_right (test (suc k)) false refl
-          ∙ sym (names-above count (suc k) (list_of count test) (list_of-below count test) z.1)
-    ]
+set-is count set test fits small same = same_numbers set (set_of_list (list_of count test)) fits small (list-has count set.word test same)
+
+detectors-are : (set : DetectorSet) (test : ℕ → Bool) → set.word < 2 ^ 64 → ((n : ℕ) → has_detector set n ≡ (test n && (leb 1 n && leb n 64))) → set ≡ set_of_detectors (list_of 64 test)
+detectors-are set test fits same = same_detectors set (set_of_detectors (list_of 64 test)) fits (list_of-below 64 test) (list-has 64 set.word test same)
 
 -- the row that has the inputs that are on
-pub row-is : (row : Row) (ls : List Lead) → row.vehicles.word < 2 ^ 16 → row.pedestrians.word < 2 ^ 16 → row.preempts.word < 2 ^ 16
+pub row-is : (row : Row) (ls : List Lead) → row.vehicles.word < 2 ^ 64 → row.pedestrians.word < 2 ^ 16 → row.preempts.word < 2 ^ 16
     → ((kind : InputKind) (number : ℕ) → has_input row kind number ≡ (lead_on ls kind number && is_input kind number)) → row ≡ row_of_leads ls
 unfolding row_of_leads
 row-is row ls fv fp fn same =
-    let small8 : list_of 8 (lead_on ls Pedestrian) < 2 ^ 8 = list_of-below 8 (lead_on ls Pedestrian) in
-    let small4 : list_of 4 (lead_on ls Preempt) < 2 ^ 4 = list_of-below 4 (lead_on ls Preempt) in
-    let ev : row.vehicles ≡ set_of_list (list_of 16 (lead_on ls Vehicle)) = set-is 16 row.vehicles (lead_on ls Vehicle) fv (list_of-below 16 (lead_on ls Vehicle)) (λ n. same Vehicle n) in
-    let ep : row.pedestrians ≡ set_of_list (list_of 8 (lead_on ls Pedestrian)) = set-is 8 row.pedestrians (lead_on ls Pedestrian) fp (omega (arith, small8)) (λ n. same Pedestrian n) in
-    let en : row.preempts ≡ set_of_list (list_of 4 (lead_on ls Preempt)) = set-is 4 row.preempts (lead_on ls Preempt) fn (omega (arith, small4)) (λ n. same Preempt n) in
-    ap (λ (s : NumberSet). row_with s row.pedestrians row.preempts) ev ∙ ap (λ (s : NumberSet). row_with (set_of_list (list_of 16 (lead_on ls Vehicle))) s row.preempts) ep
-    ∙ ap (λ (s : NumberSet). row_with (set_of_list (list_of 16 (lead_on ls Vehicle))) (set_of_list (list_of 8 (lead_on ls Pedestrian))) s) en
+    let few : list_of 8 (lead_on ls Preempt) < 2 ^ 8 = list_of-below 8 (lead_on ls Preempt) in
+    let ev : row.vehicles ≡ set_of_detectors (list_of 64 (lead_on ls Vehicle)) = detectors-are row.vehicles (lead_on ls Vehicle) fv (λ n. same Vehicle n) in
+    let ep : row.pedestrians ≡ set_of_list (list_of 16 (lead_on ls Pedestrian)) = set-is 16 row.pedestrians (lead_on ls Pedestrian) fp (list_of-below 16 (lead_on ls Pedestrian)) (λ n. same Pedestrian n) in
+    let en : row.preempts ≡ set_of_list (list_of 8 (lead_on ls Preempt)) = set-is 8 row.preempts (lead_on ls Preempt) fn (omega (arith, few)) (λ n. same Preempt n) in
+    ap (λ (s : DetectorSet). row_with s row.pedestrians row.preempts) ev ∙ ap (λ (s : NumberSet). row_with (set_of_detectors (list_of 64 (lead_on ls Vehicle))) s row.preempts) ep
+    ∙ ap (λ (s : NumberSet). row_with (set_of_detectors (list_of 64 (lead_on ls Vehicle))) (set_of_list (list_of 16 (lead_on ls Pedestrian))) s) en

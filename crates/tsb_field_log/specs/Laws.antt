@@ -1,7 +1,7 @@
 -- What holds of the logs that are written, in words that do not retrace how they are. Each law here is the contract of a
 -- function in src/laws.rt.
 use Rattle.std.specs.Prelude.{◌≡◌, ◌⊎◌, ◌↔◌, ℕ, ◌+◌, ◌*◌, ◌<◌, ◌≤◌, true, false, List, [], ◌∷◌, ◌++◌, length, Contains, Ok}
-use Rattle.tsb_types.specs.Sets.{has_number}
+use Rattle.tsb_types.specs.Sets.{has_detector, has_number}
 use Rattle.tsb_types.specs.declared.limits.TheConstants.{TICKS}
 use Rattle.tsb_log_text.specs.Logs.{log_of, row_at}
 use Rattle.tsb_log_text.specs.declared.log.LogRow.{LogRow}
@@ -10,7 +10,10 @@ use Rattle.tsb_field_log.specs.Ticks.{begin_of, is_on_in, input_on, row_in}
 use Rattle.tsb_field_log.specs.Changes.{rows_of}
 use Rattle.tsb_field_log.specs.Streets.{rows_until, tick_at}
 use Rattle.tsb_field_log.specs.Pushed.{AreInOrder, AreInOrderBehind, last_tick, rows_before, rows_given}
-use Rattle.tsb_log_text.specs.LogText.{log_text}
+use Rattle.tsb_field_log.specs.Wires.{form_of_wires}
+use Rattle.tsb_log_text.specs.ListText.{text_in}
+use Rattle.tsb_log_text.specs.declared.form.RowForm.TheVariants.{Digits}
+use Rattle.tsb_log_text.specs.declared.list_line.TheConstants.{LISTS_LINE}
 use Rattle.tsb_field_log.specs.declared.inputs.InputKind.TheVariants.{Vehicle, Pedestrian, Preempt}
 use Rattle.tsb_field_log.specs.declared.inputs.Wire.{Wire}
 use Rattle.tsb_field_log.specs.declared.inputs.InputEvent.{InputEvent}
@@ -31,16 +34,25 @@ abbrev pub AreOnAtSomeMoment : Type 0
 AreOnAtSomeMoment = (from : ℕ) (wire : Wire) (tick : ℕ) (events : List InputEvent) → 1 ≤ tick
     → (is_on_in from wire tick events ≡ true) ↔ OnAtSomeMoment from wire tick events
 
+-- the text of all rows, in the form of a log by these wires
+abbrev pub whole_text : ℕ → List Wire → List InputEvent → List ℕ
+whole_text from wires events = text_in (form_of_wires wires) (rows_of (row_in from wires events))
+
 -- what is written is a log, of those rows, where it has at most 64 MiB
 abbrev pub AreLogs : Type 0
 AreLogs = (from : ℕ) (wires : List Wire) (events : List InputEvent)
-    → length (log_text (rows_of (row_in from wires events))) ≤ 67108864
-    → log_of (log_text (rows_of (row_in from wires events))) ≡ Ok (rows_of (row_in from wires events))
+    → length (whole_text from wires events) ≤ 67108864
+    → log_of (whole_text from wires events) ≡ Ok (rows_of (row_in from wires events))
 
--- and each row has 39 bytes
+-- each row by digits has 39 bytes
 abbrev pub AreLong : Type 0
-AreLong = (from : ℕ) (wires : List Wire) (events : List InputEvent)
-    → length (log_text (rows_of (row_in from wires events))) ≡ 39 * length (rows_of (row_in from wires events))
+AreLong = (from : ℕ) (wires : List Wire) (events : List InputEvent) → form_of_wires wires ≡ Digits
+    → length (whole_text from wires events) ≡ 39 * length (rows_of (row_in from wires events))
+
+-- and any row has at most as many as the longest by lists
+abbrev pub AreShort : Type 0
+AreShort = (from : ℕ) (wires : List Wire) (events : List InputEvent)
+    → length (whole_text from wires events) ≤ LISTS_LINE * length (rows_of (row_in from wires events))
 
 -- the row in force at a tick of a bench has the inputs of that tick
 abbrev pub AreInForce : Type 0
@@ -50,7 +62,7 @@ AreInForce = (from : ℕ) (wires : List Wire) (events : List InputEvent) (tick :
 -- and these are on in it: exactly those to which a wire leads that is on in that tick
 abbrev pub AreTheInputs : Type 0
 AreTheInputs = (from : ℕ) (wires : List Wire) (events : List InputEvent) (tick number : ℕ) → 1 ≤ number
-    → (number ≤ most_inputs Vehicle → has_number (row_in from wires events tick).vehicles number ≡ input_on from wires events tick Vehicle number)
+    → (number ≤ most_inputs Vehicle → has_detector (row_in from wires events tick).vehicles number ≡ input_on from wires events tick Vehicle number)
     × (number ≤ most_inputs Pedestrian → has_number (row_in from wires events tick).pedestrians number ≡ input_on from wires events tick Pedestrian number)
     × (number ≤ most_inputs Preempt → has_number (row_in from wires events tick).preempts number ≡ input_on from wires events tick Preempt number)
 

@@ -1,6 +1,6 @@
 -- What is kept of each wire from event to event, in the tick that the last of them fell into.
 use Rattle.std.specs.Prelude.{ℕ, ◌+◌, ◌==◌, ◌&&◌, ◌||◌, Bool, false, List, [], ◌∷◌, if◌then◌else◌}
-use Rattle.tsb_types.specs.Sets.{list_of, set_of_list}
+use Rattle.tsb_types.specs.Sets.{list_of, set_of_detectors, set_of_list}
 use Rattle.tsb_types.specs.declared.row.Row.{Row}
 use Rattle.tsb_field_log.specs.Inputs.{is_of, is_same_kind, on_at, switched_on}
 use Rattle.tsb_field_log.specs.Ticks.{begin_of}
@@ -46,7 +46,7 @@ lead_on (l ∷ ls) kind number = (is_same_kind l.wire.kind kind && l.wire.input 
 -- the inputs that are on in the tick
 unfoldable pub row_of_leads : List Lead → Row
 row_of_leads leads = record {
-  vehicles = set_of_list (list_of 16 (lead_on leads Vehicle));
-  pedestrians = set_of_list (list_of 8 (lead_on leads Pedestrian));
-  preempts = set_of_list (list_of 4 (lead_on leads Preempt));
+  vehicles = set_of_detectors (list_of 64 (lead_on leads Vehicle));
+  pedestrians = set_of_list (list_of 16 (lead_on leads Pedestrian));
+  preempts = set_of_list (list_of 8 (lead_on leads Preempt));
 }

@@ -2,7 +2,7 @@
 pub mod Inputs
 -- ticks of a street, and the inputs that are on in each
 pub mod Ticks
--- inputs that a bench has, and the wires that lead to them
+-- inputs that a bench has, the wires that lead to them, and the form of a log by these
 pub mod Wires
 -- the wires that are mapped, and from each other channel to the input of its own number
 pub mod Mapping

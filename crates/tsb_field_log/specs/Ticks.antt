@@ -1,7 +1,7 @@
 -- Ticks of a street, and the inputs that are on in each. A tick is a tenth of a second. Tick 1 begins at the moment
 -- that a log is made from; events before it say how it begins.
 use Rattle.std.specs.Prelude.{ℕ, ◌+◌, ◌-◌, ◌*◌, ◌==◌, ◌&&◌, ◌||◌, Bool, false, List, [], ◌∷◌}
-use Rattle.tsb_types.specs.Sets.{list_of, set_of_list}
+use Rattle.tsb_types.specs.Sets.{list_of, set_of_detectors, set_of_list}
 use Rattle.tsb_types.specs.declared.row.Row.{Row}
 use Rattle.tsb_field_log.specs.Inputs.{is_same_kind, on_at, switched_on}
 use Rattle.tsb_field_log.specs.declared.inputs.InputKind.{InputKind}
@@ -28,7 +28,7 @@ input_on from (wire ∷ wires) events tick kind number =
 -- the inputs that are on in a tick
 unfoldable pub row_in : ℕ → List Wire → List InputEvent → ℕ → Row
 row_in from wires events tick = record {
-  vehicles = set_of_list (list_of 16 (input_on from wires events tick Vehicle));
-  pedestrians = set_of_list (list_of 8 (input_on from wires events tick Pedestrian));
-  preempts = set_of_list (list_of 4 (input_on from wires events tick Preempt));
+  vehicles = set_of_detectors (list_of 64 (input_on from wires events tick Vehicle));
+  pedestrians = set_of_list (list_of 16 (input_on from wires events tick Pedestrian));
+  preempts = set_of_list (list_of 8 (input_on from wires events tick Preempt));
 }

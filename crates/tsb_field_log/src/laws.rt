@@ -1,5 +1,5 @@
 //! What holds of every log that is written, each law the contract of a function that does nothing.
-ghost use Rattle.tsb_field_log.specs.Laws.{AddOneEvent, AddTheEnd, AddUpToTheLog, AreInForce, AreLogs, AreLong, AreOnAtSomeMoment, AreTheInputs, BeginTheLog};
+ghost use Rattle.tsb_field_log.specs.Laws.{AddOneEvent, AddTheEnd, AddUpToTheLog, AreInForce, AreLogs, AreLong, AreOnAtSomeMoment, AreShort, AreTheInputs, BeginTheLog};
 
 /// No pulse is lost. A wire is on in a tick exactly where it is on at some moment of that tick, or is switched on in
 /// it, though off again at the same moment. What is switched off at a moment is off from that moment.
@@ -11,14 +11,16 @@ pub fn no_pulse_is_lost()
     ensures { AreOnAtSomeMoment }
 {}
 
-/// The text of the rows is a log of those rows. It is one that `read_log` takes, where it has at most 64 MiB; each row
-/// has 39 bytes.
+/// The text of the rows, in the form of a log by these wires, is a log of those rows. It is one that `read_log` takes, where
+/// it has at most 64 MiB; each row by digits has 39 bytes, and each by lists at most 200.
 ///
-/// Mistake: a tick has six digits, `line_in_six` (`is_a_log`, `would_be_malformed`).
+/// Mistakes: a tick has six digits, `line_in_six` (`is_a_log`, `would_be_malformed`); rows are by digits though a wire leads
+/// to detector 17 (`has_17`, `would_lose_17`).
 /// Witness: `is_a_log`, `is_long` of TickMistakes.
 pub fn what_is_written_is_a_log()
     ensures logs { AreLogs }
     ensures long { AreLong }
+    ensures short { AreShort }
 {}
 
 /// The row in force at a tick has an input on exactly where one of the wires that lead to it is on in that tick.

@@ -12,5 +12,5 @@ mod mapping;
 mod street;
 
 pub use inputs::{InputEvent, InputKind, Signal, Wire};
-pub use mapping::{is_wired, wires};
+pub use mapping::{form_of_wires, is_wired, wires};
 pub use street::{KnownRows, Street};

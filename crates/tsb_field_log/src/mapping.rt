@@ -1,10 +1,14 @@
-//! The wires of a bench: those that are mapped, and from each other channel to the input of its own number.
+//! The wires of a bench: those that are mapped, and from each other channel to the input of its own number. And the form
+//! of a log by wires.
+ghost use Rattle.std.specs.List.{list_any};
 ghost use Rattle.std.specs.Prelude.{◌≡◌, ◌++◌, IfOk, OnOk};
 ghost use Rattle.tsb_field_log.specs.Inputs.{inputs_in_digits};
 ghost use Rattle.tsb_field_log.specs.Mapping.{is_wired, leads_from, own_wires, wires_of};
+ghost use Rattle.tsb_field_log.specs.Wires.{form_of_wires, leads_beyond};
 
 use crate::inputs::{InputKind, Wire};
 use std::alloc::{AllocError, Global};
+use tsb_log_text::RowForm;
 
 /// The wires that are mapped, and then for each kind a wire from channel n to input n, from 1 to as many as a row in digits
 /// has, except where channel n is mapped: that channel leads only where it is mapped. The error is that memory ran
@@ -38,7 +42,8 @@ fn leads_from(wire: Wire, kind: InputKind, channel: u32) -> bool
 fn push_own_wires(all: &mut Vec<Wire>, mapped: &[Wire], kind: InputKind) -> Result<(), AllocError>
     ensures { OnOk result (all.new.items ≡ all.old.items ++ own_wires mapped.now kind 1 (inputs_in_digits kind)) }
 {
-    for before in 0..kind.digits() {
+    let most = kind.digits();
+    for before in 0..most {
         let input = before + 1;
         let channel = input as u32;
         if !is_wired(mapped, kind, channel) {
@@ -50,4 +55,29 @@ fn push_own_wires(all: &mut Vec<Wire>, mapped: &[Wire], kind: InputKind) -> Resu
         }
     }
     Ok(())
+}
+
+/// The form of a log by these wires: lists, where one leads to an input for which rows in digits have none.
+pub fn form_of_wires(wires: &[Wire]) -> RowForm
+    ensures { result ≡ form_of_wires wires.now }
+{
+    if lead_beyond(wires) {
+        RowForm::Lists
+    } else {
+        RowForm::Digits
+    }
+}
+
+/// Whether a wire leads to an input for which rows in digits have none.
+fn lead_beyond(wires: &[Wire]) -> bool
+    ensures { result ≡ list_any leads_beyond wires.now }
+{
+    wires.iter().any(|wire| leads_beyond(*wire))
+}
+
+/// Whether this wire leads to such an input.
+fn leads_beyond(wire: Wire) -> bool
+    ensures { result ≡ leads_beyond wire }
+{
+    wire.input > wire.kind.digits()
 }

@@ -2,7 +2,7 @@
 use Rattle.std.proofs.Common.{Option, ◌≡◌, ℕ, ◌+◌, ◌-◌, ◌*◌, ◌/◌, ◌<◌, ◌≤◌, nat_lt, Bool, true, false, nat_le, max, List, [], ◌∷◌, ◌++◌, length, length-append, refl, sym, ap, ◌∙◌, arith, subst, Some, None, Result, Ok, Err, inl, inr, if◌then◌else◌}
 use Rattle.std.proofs.Math.Nat.{div-mul-le_self}
 use Rattle.std.proofs.lemmas.Nat.{le-div}
-use Rattle.std.proofs.lemmas.Bool.{lt-ltb, le-ltb}
+use Rattle.std.proofs.lemmas.Bool.{leb-false, leb-true, lt-ltb, le-ltb}
 use Rattle.std.proofs.lemmas.Bool.Decides.{leb_tells}
 use Rattle.std.proofs.lemmas.List.{append-nil}
 use Rattle.tsb_log_text.specs.declared.log.LogRow.{LogRow}
@@ -34,13 +34,17 @@ use Rattle.tsb_field_streams.specs.declared.error.FilterError.{FilterError}
 use Rattle.tsb_field_streams.specs.declared.error.FilterError.TheVariants.{TimeOrder, TooManyRows, PastEnd, LogTooLarge}
 use Rattle.tsb_field_streams.specs.declared.filter.Filter.{Filter}
 use Rattle.tsb_field_streams.specs.declared.filter.gaps.Gaps.{Gaps}
-use Rattle.tsb_field_streams.specs.declared.filter.TheConstants.{MOST_ROWS}
-use Rattle.tsb_field_streams.specs.Filtering.{Given, Stand, bound_of, disorder, lateness, most_held, with_count, with_due, with_event, with_first, with_given, with_held, with_in_order, with_formed, with_late, with_noted, with_other_line, with_passed, with_row_line, with_signal, with_some_row, with_wide, with_zone, may_be_plain}
+use Rattle.tsb_field_log.specs.Wires.{form_of_wires}
+use Rattle.tsb_log_text.specs.ListText.{text_in}
+use Rattle.tsb_log_text.specs.declared.form.RowForm.{RowForm}
+use Rattle.tsb_log_text.specs.declared.read.TheConstants.{LIMIT}
+use Rattle.tsb_log_text.proofs.WrittenLemmas.{append-in, none-in}
+use Rattle.tsb_field_streams.specs.Filtering.{Given, Stand, bound_of, disorder, lateness, most_held, with_count, with_due, with_event, with_first, with_given, with_held, with_in_order, with_formed, with_late, with_noted, with_other_line, with_passed, with_row_line, with_signal, with_some_row, with_wide, with_zone, may_be_plain, text_by}
 use Rattle.tsb_field_streams.specs.Standing.{StandsAt, Takes}
 
-pub none_known : (from : ℕ) (wires : List Wire) → length (rows_before from wires []) ≡ 0
+pub none_known : (g : Given) → length (text_by g (rows_before g.from g.wires [])) ≡ 0
 unfolding changes
-none_known from wires = refl
+none_known g = ap length (none-in (form_of_wires g.wires))
 
 -- ## Moments
 
@@ -84,7 +88,8 @@ stands_counted g s f moment counted first gaps at le counts begins paused = reco
   behind = let b : last_tick g.from s.events ≤ tick_at g.from s.last = at.behind in
       let t : tick_at g.from s.last ≤ tick_at g.from moment = ticks-follow g.from s.last moment le in
       omega (arith, b, t);
-  rows = at.rows;
+  form = at.form;
+  bytes = at.bytes;
   few = at.few;
   held = at.held;
   most = at.most;
@@ -113,7 +118,8 @@ stands_formed g s f form at = record {
   found = at.found;
   street = at.street;
   behind = at.behind;
-  rows = at.rows;
+  form = at.form;
+  bytes = at.bytes;
   few = at.few;
   held = at.held;
   most = at.most;
@@ -133,24 +139,99 @@ within from wires es e street t =
     omega (arith, last, most)
 
 pub event-large : (g : Given) (s : Stand) (e : InputEvent) (street : Street) → HasTaken g.from g.wires (s.events ++ e ∷ []) street
-    → MOST_ROWS < length (rows_before g.from g.wires (s.events ++ e ∷ [])) → with_event g s e ≡ Err LogTooLarge
+    → LIMIT < length (text_by g (rows_before g.from g.wires (s.events ++ e ∷ []))) → with_event g s e ≡ Err LogTooLarge
 event-large g s e street t large =
-    rw (le-ltb TICKS (tick_at g.from e.nanos) (within g.from g.wires s.events e street t), lt-ltb MOST_ROWS (length (rows_before g.from g.wires (s.events ++ e ∷ []))) large) refl
+    rw (le-ltb TICKS (tick_at g.from e.nanos) (within g.from g.wires s.events e street t), lt-ltb LIMIT (length (text_by g (rows_before g.from g.wires (s.events ++ e ∷ [])))) large) refl
 
 pub event-taken : (g : Given) (s : Stand) (e : InputEvent) (street : Street) → HasTaken g.from g.wires (s.events ++ e ∷ []) street
-    → length (rows_before g.from g.wires (s.events ++ e ∷ [])) ≤ MOST_ROWS → with_event g s e ≡ Ok (record s { events = s.events ++ e ∷ [] })
+    → length (text_by g (rows_before g.from g.wires (s.events ++ e ∷ []))) ≤ LIMIT → with_event g s e ≡ Ok (record s { events = s.events ++ e ∷ [] })
 event-taken g s e street t few =
-    rw (le-ltb TICKS (tick_at g.from e.nanos) (within g.from g.wires s.events e street t), le-ltb MOST_ROWS (length (rows_before g.from g.wires (s.events ++ e ∷ []))) few) refl
+    rw (le-ltb TICKS (tick_at g.from e.nanos) (within g.from g.wires s.events e street t), le-ltb LIMIT (length (text_by g (rows_before g.from g.wires (s.events ++ e ∷ [])))) few) refl
 
--- how many rows are known after it
-pub known-then : (g : Given) (s : Stand) (e : InputEvent) (f : Filter) (rows : KnownRows) (known : ℕ) → StandsAt g s f
-    → rows_before g.from g.wires (s.events ++ e ∷ []) ≡ rows_before g.from g.wires s.events ++ rows_in rows
-    → known ≡ f.rows + length (rows_in rows) → length (rows_before g.from g.wires (s.events ++ e ∷ [])) ≡ known
-known-then g s e f rows known at grown is =
-    let were : f.rows ≡ length (rows_before g.from g.wires s.events) = at.rows in
-    let all : length (rows_before g.from g.wires s.events ++ rows_in rows) ≡ length (rows_before g.from g.wires s.events) + length (rows_in rows) =
-    length-append (rows_before g.from g.wires s.events) (rows_in rows) in
-    ap length grown ∙ omega (arith, were, all, is)
+-- how many bytes are known with these rows behind those of an earlier stand
+pub bytes-then : (g : Given) (s : Stand) (f : Filter) (rows : KnownRows) (all : List LogRow) (known : ℕ) → StandsAt g s f
+    → all ≡ rows_before g.from g.wires s.events ++ rows_in rows → known ≡ f.bytes + length (text_in f.form (rows_in rows)) → length (text_by g all) ≡ known
+bytes-then g s f rows all known at grown is =
+    let form : RowForm = form_of_wires g.wires in
+    let were : f.bytes ≡ length (text_in form (rows_before g.from g.wires s.events)) = at.bytes in
+    let new : length (text_in f.form (rows_in rows)) ≡ length (text_in form (rows_in rows)) = ap (λ (it : RowForm). length (text_in it (rows_in rows))) at.form in
+    let both : length (text_in form (rows_before g.from g.wires s.events) ++ text_in form (rows_in rows)) ≡ length (text_in form (rows_before g.from g.wires s.events)) + length (text_in form (rows_in rows)) =
+    length-append (text_in form (rows_before g.from g.wires s.events)) (text_in form (rows_in rows)) in
+    ap (λ (them : List LogRow). length (text_in form them)) grown ∙ ap length (append-in form (rows_before g.from g.wires s.events) (rows_in rows)) ∙ omega (arith, were, new, both, is)
+
+-- ## Whether there is room for the rows that become known
+
+-- there is none
+pub all-large : (g : Given) (s : Stand) (f : Filter) (rows : KnownRows) (size : ℕ) (all : List LogRow) → StandsAt g s f → all ≡ rows_before g.from g.wires s.events ++ rows_in rows
+    → size ≡ length (text_in f.form (rows_in rows)) → nat_le size (LIMIT - f.bytes) ≡ false → LIMIT < length (text_by g all)
+all-large g s f rows size all at grown sized room =
+    let known : length (text_by g all) ≡ f.bytes + size = bytes-then g s f rows all (f.bytes + size) at grown (ap (λ (n : ℕ). f.bytes + n) sized) in
+    let over : LIMIT - f.bytes < size = leb-false size (LIMIT - f.bytes) room in
+    let few : f.bytes ≤ LIMIT = at.few in
+    omega (arith, known, over, few)
+
+-- there is
+pub all-fit : (g : Given) (s : Stand) (f : Filter) (rows : KnownRows) (size : ℕ) (all : List LogRow) → StandsAt g s f → all ≡ rows_before g.from g.wires s.events ++ rows_in rows
+    → size ≡ length (text_in f.form (rows_in rows)) → nat_le size (LIMIT - f.bytes) ≡ true → length (text_by g all) ≤ LIMIT
+all-fit g s f rows size all at grown sized room =
+    let known : length (text_by g all) ≡ f.bytes + size = bytes-then g s f rows all (f.bytes + size) at grown (ap (λ (n : ℕ). f.bytes + n) sized) in
+    let within : size ≤ LIMIT - f.bytes = leb-true size (LIMIT - f.bytes) room in
+    let few : f.bytes ≤ LIMIT = at.few in
+    omega (arith, known, within, few)
+
+-- an event of the last moment is in no earlier tick
+pub not-later : (g : Given) (s : Stand) (f : Filter) (e : InputEvent) → StandsAt g s f → s.last ≡ e.nanos → last_tick g.from s.events ≤ tick_at g.from e.nanos
+not-later g s f e at last = subst (λ (n : ℕ). last_tick g.from s.events ≤ tick_at g.from n) last at.behind
+
+-- an event for whose rows there is no room
+pub event-kept : (g : Given) (s : Stand) (f : Filter) (e : InputEvent) (rows : KnownRows) (street : Street) (size : ℕ) (now : Filter) → StandsAt g s f
+    → HasTaken g.from g.wires (s.events ++ e ∷ []) street → rows_before g.from g.wires (s.events ++ e ∷ []) ≡ rows_before g.from g.wires s.events ++ rows_in rows
+    → size ≡ length (text_in f.form (rows_in rows)) → nat_le size (LIMIT - f.bytes) ≡ false → Takes g s (with_event g s e) (Err LogTooLarge) now
+event-kept g s f e rows street size now at taken grown sized room =
+    let all : List LogRow = rows_before g.from g.wires (s.events ++ e ∷ []) in
+    let large : with_event g s e ≡ Err LogTooLarge = event-large g s e street taken (all-large g s f rows size all at grown sized room) in
+    subst (λ (come : Result Stand FilterError). Takes g s come (Err LogTooLarge) now) (sym large) refl
+
+-- an event for whose rows there is room
+pub event-stands : (g : Given) (s : Stand) (f : Filter) (e : InputEvent) (rows : KnownRows) (street : Street) (size : ℕ) → StandsAt g s f → s.last ≡ e.nanos
+    → HasTaken g.from g.wires (s.events ++ e ∷ []) street → rows_before g.from g.wires (s.events ++ e ∷ []) ≡ rows_before g.from g.wires s.events ++ rows_in rows
+    → size ≡ length (text_in f.form (rows_in rows)) → nat_le size (LIMIT - f.bytes) ≡ true → Takes g s (with_event g s e) (Ok rows) (record f { bytes = f.bytes + size; street = street })
+event-stands g s f e rows street size at last taken grown sized room =
+    let all : List LogRow = rows_before g.from g.wires (s.events ++ e ∷ []) in
+    let known : length (text_by g all) ≡ f.bytes + size = bytes-then g s f rows all (f.bytes + size) at grown (ap (λ (n : ℕ). f.bytes + n) sized) in
+    let fits : length (text_by g all) ≤ LIMIT = all-fit g s f rows size all at grown sized room in
+    subst (λ (come : Result Stand FilterError). Takes g s come (Ok rows) (record f { bytes = f.bytes + size; street = street })) (sym (event-taken g s e street taken fits)) (
+      record {
+        reading = at.reading;
+        device = at.device;
+        wires = at.wires;
+        columns = at.columns;
+        times = at.times;
+        zoned = at.zoned;
+        counted = at.counted;
+        first = at.first;
+        last = at.last;
+        gaps = at.gaps;
+        devices = at.devices;
+        strays = at.strays;
+        used = at.used;
+        others = at.others;
+        unwired = at.unwired;
+        passed = at.passed;
+        found = at.found;
+        street = taken;
+        behind = let now : last_tick g.from (s.events ++ e ∷ []) ≡ tick_at g.from e.nanos = last-push g.from s.events e in
+            let same : tick_at g.from s.last ≡ tick_at g.from e.nanos = ap (tick_at g.from) last in
+            omega (arith, now, same);
+        form = at.form;
+        bytes = sym known;
+        few = omega (arith, known, fits);
+        held = at.held;
+        most = at.most;
+        latest = at.latest;
+      },
+      grown,
+    )
 
 -- a row that is in order is taken by what it says
 pub row-takes : (g : Given) (number : ℕ) (s : Stand) (row : EventRow) (signal : Signal) (given : Result KnownRows FilterError) (f : Filter) → s.last ≤ row.moment.nanos
@@ -235,7 +316,8 @@ stands_given g s f held rows at is most = record {
   found = at.found;
   street = at.street;
   behind = at.behind;
-  rows = at.rows;
+  form = at.form;
+  bytes = at.bytes;
   few = at.few;
   held = is;
   most = most ∙ at.most;
@@ -265,7 +347,8 @@ stands_held g s f held row latest at is most later = record {
   found = at.found;
   street = at.street;
   behind = at.behind;
-  rows = at.rows;
+  form = at.form;
+  bytes = at.bytes;
   few = at.few;
   held = is ∙ ap (placed row) at.held;
   most = most ∙ at.most;

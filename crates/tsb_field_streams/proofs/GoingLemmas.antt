@@ -7,7 +7,8 @@ use Rattle.std.specs.declared.result.Result.TheVariants.{Ok, Err}
 use Rattle.std.specs.Io.KnownBytes.{Appends, Consumes, IsAtEnd, Keeps}
 use Rattle.tsb_lines.proofs.StreamLemmas.{appends-nothing, consumes-kept, consumes-more, consumes-nothing}
 use Rattle.tsb_field_log.specs.Changes.{changes}
-use Rattle.tsb_log_text.specs.LogText.{log_text}
+use Rattle.tsb_log_text.proofs.WrittenLemmas.{none-in}
+use Rattle.tsb_field_log.specs.Wires.{form_of_wires}
 use Rattle.tsb_field_streams.specs.declared.error.FilterError.{FilterError}
 use Rattle.tsb_field_streams.specs.declared.error.FilterError.TheVariants.{Read, Write, TooLarge}
 use Rattle.tsb_field_streams.specs.declared.filter.Summary.{Summary}
@@ -89,8 +90,8 @@ ended-fault e g stream left count bytes input now then a c d k more long le w = 
 
 -- no row is known before the first event
 nothing-known : (g : Given) → known_log g (start g) ≡ []
-unfolding changes log_text
-nothing-known g = refl
+unfolding changes
+nothing-known g = none-in (form_of_wires g.wires)
 
 -- before the first byte
 pub follows-start : (g : Given) (stream : Stream) (a : Option (List ℕ)) → StandsAt g (start g) stream.filter → stream.number ≡ 1 → stream.line ≡ [] → Follows g [] stream a a

@@ -1,17 +1,17 @@
 -- The text of the rows that become known.
-use Rattle.std.proofs.Common.{◌≡◌, [], ◌∷◌, ◌++◌, Some, None, refl, option_to_list}
+use Rattle.std.proofs.Common.{◌≡◌, [], ◌∷◌, ◌++◌, Some, None, option_to_list}
+use Rattle.tsb_log_text.specs.declared.form.RowForm.{RowForm}
 use Rattle.tsb_log_text.specs.declared.log.LogRow.{LogRow}
 use Rattle.tsb_field_log.specs.declared.street.KnownRows.{KnownRows}
 use Rattle.tsb_field_log.specs.Streets.{rows_in}
-use Rattle.tsb_log_text.specs.LogText.{log_text, row_line}
-use Rattle.tsb_log_text.proofs.TextLemmas.{text-append, text-row}
+use Rattle.tsb_log_text.specs.ListText.{line_in, text_in}
+use Rattle.tsb_log_text.proofs.WrittenLemmas.{append-in, none-in, row-in}
 
-pub some_row : (row : LogRow) → log_text (option_to_list (Some row)) ≡ row_line row ++ 10 ∷ []
-some_row row = text-row row
+pub some_row : (form : RowForm) (row : LogRow) → text_in form (option_to_list (Some row)) ≡ line_in form row ++ 10 ∷ []
+some_row form row = row-in form row
 
-pub no_row : log_text (option_to_list None) ≡ []
-unfolding log_text
-no_row = refl
+pub no_row : (form : RowForm) → text_in form (option_to_list None) ≡ []
+no_row form = none-in form
 
-pub two_rows : (rows : KnownRows) → log_text (rows_in rows) ≡ log_text (option_to_list rows.first) ++ log_text (option_to_list rows.second)
-two_rows rows = text-append (option_to_list rows.first) (option_to_list rows.second)
+pub two_rows : (form : RowForm) (rows : KnownRows) → text_in form (rows_in rows) ≡ text_in form (option_to_list rows.first) ++ text_in form (option_to_list rows.second)
+two_rows form rows = append-in form (option_to_list rows.first) (option_to_list rows.second)

@@ -12,8 +12,8 @@ use Rattle.tsb_field_streams.specs.Order.{IsInOrderFrom, first_before, first_of,
 use Rattle.tsb_field_streams.proofs.OrderLemmas.{AllFrom, first-stays, stay-in-order}
 use Rattle.tsb_field_streams.specs.declared.error.FilterError.{FilterError}
 use Rattle.tsb_field_streams.specs.declared.error.FilterError.TheVariants.{TimeOrder, TooManyRows, PastEnd, LogTooLarge}
-use Rattle.tsb_field_streams.specs.declared.filter.TheConstants.{MOST_ROWS}
-use Rattle.tsb_field_streams.specs.Filtering.{Given, Stand, bound_of, disorder, lateness, most_held, next_after, start, wire_place, with_count, with_counted, with_due, with_event, with_events, with_given, with_held, with_in_order, with_next, with_nexts, with_signal, with_used, with_wire}
+use Rattle.tsb_log_text.specs.declared.read.TheConstants.{LIMIT}
+use Rattle.tsb_field_streams.specs.Filtering.{Given, Stand, bound_of, disorder, lateness, most_held, next_after, start, text_by, wire_place, with_count, with_counted, with_due, with_event, with_events, with_given, with_held, with_in_order, with_next, with_nexts, with_signal, with_used, with_wire}
 use Rattle.tsb_field_streams.specs.Lines.{ended}
 use Rattle.tsb_field_streams.specs.SortLaws.{AreWithin, TellTheSameInOrder, TellWhatSortedRowsTell, rows_behind, rows_taken, told, unsorted}
 
@@ -29,7 +29,7 @@ carry held latest (Err e) = Err e
 
 events-carry : (g : Given) (h : List EventRow) (l : ℕ) (s : Stand) (es : List InputEvent) → with_events g (put h l s) es ≡ carry h l (with_events g s es)
 events-carry g h l s es =
-    elim (nat_lt MOST_ROWS (length (rows_before g.from g.wires es))) as (λ b. (if b then Err LogTooLarge else Ok (record (put h l s) { events = es })) ≡ carry h l (if b then Err LogTooLarge else Ok (record s { events = es })))
+    elim (nat_lt LIMIT (length (text_by g (rows_before g.from g.wires es)))) as (λ b. (if b then Err LogTooLarge else Ok (record (put h l s) { events = es })) ≡ carry h l (if b then Err LogTooLarge else Ok (record s { events = es })))
     [ true ↦ refl | false ↦ refl ]
 
 event-carry : (g : Given) (h : List EventRow) (l : ℕ) (s : Stand) (e : InputEvent) → with_event g (put h l s) e ≡ carry h l (with_event g s e)

@@ -1,5 +1,5 @@
 -- What a stream has written, and how it ends.
-use Rattle.std.proofs.Common.{◌≡◌, ◌⊎◌, ℕ, zero, suc, ◌+◌, ◌*◌, ◌<◌, ◌≤◌, List, [], ◌∷◌, ◌++◌, length, refl, sym, ap, ◌∙◌, append_assoc, arith, subst, inl, inr, OnOk, OnErr}
+use Rattle.std.proofs.Common.{◌≡◌, ◌⊎◌, ℕ, zero, suc, ◌+◌, ◌<◌, ◌≤◌, List, [], ◌∷◌, ◌++◌, length, refl, sym, ap, ◌∙◌, append_assoc, arith, subst, inl, inr, OnOk, OnErr}
 use Rattle.std.proofs.lemmas.List.{append-nil}
 use Rattle.std.proofs.lemmas.Bool.{cases_eq}
 use Rattle.std.specs.declared.option.Option.{Option}
@@ -13,20 +13,21 @@ use Rattle.tsb_lines.proofs.KeptLemmas.{kept-more}
 use Rattle.tsb_field_log.specs.declared.street.KnownRows.{KnownRows}
 use Rattle.tsb_field_log.specs.Changes.{rows_of}
 use Rattle.tsb_field_log.specs.Streets.{rows_in}
-use Rattle.tsb_log_text.specs.LogText.{log_text}
+use Rattle.tsb_log_text.specs.ListText.{text_in}
+use Rattle.tsb_log_text.specs.declared.form.RowForm.{RowForm}
+use Rattle.tsb_field_log.specs.Wires.{form_of_wires}
 use Rattle.tsb_field_log.specs.Pushed.{rows_before}
 use Rattle.tsb_field_log.specs.Ticks.{row_in}
 use Rattle.tsb_field_log.specs.declared.inputs.InputEvent.{InputEvent}
-use Rattle.tsb_log_text.specs.Logs.{log_of}
 use Rattle.tsb_field_log.proofs.LawLemmas.{logs}
 use Rattle.tsb_field_log.proofs.PushedLemmas.{order-last, rows-front}
-use Rattle.tsb_log_text.proofs.TextLemmas.{text-append, text-length}
+use Rattle.tsb_log_text.proofs.WrittenLemmas.{append-in}
 use Rattle.tsb_field_streams.specs.declared.error.FilterError.{FilterError}
 use Rattle.tsb_field_streams.specs.declared.error.FilterError.TheVariants.{Write, LogTooLarge}
 use Rattle.tsb_field_streams.specs.declared.filter.Filter.{Filter}
 use Rattle.tsb_field_streams.specs.declared.filter.Summary.{Summary}
 use Rattle.tsb_field_streams.specs.declared.stream.Stream.{Stream}
-use Rattle.tsb_field_streams.specs.Filtering.{Given, Stand, next_after, one_more, summary_at, with_line, with_next, with_nexts}
+use Rattle.tsb_field_streams.specs.Filtering.{Given, Stand, next_after, one_more, summary_at, text_by, with_line, with_next, with_nexts}
 use Rattle.tsb_field_streams.specs.Lines.{HasRead, all_of, ended, filtered}
 use Rattle.tsb_field_streams.specs.Standing.{StandsAt, Takes}
 use Rattle.tsb_field_streams.specs.Streaming.{Follows, WroteFront, Went, Sticks, Finished, Known, TookLast, known_log, whole_log}
@@ -38,9 +39,9 @@ use Rattle.tsb_field_streams.proofs.ReadLemmas.{all-comes, front-comes, kept-las
 pub known-begins : (g : Given) (s : Stand) (f : Filter) → StandsAt g s f → (tail : List ℕ) × (whole_log g s ≡ known_log g s ++ tail)
 known-begins g s f at =
     let rest = rows-front g.from g.wires s.events [] (order-last g.from 0 s.events at.street.ordered) in (
-      log_text rest.0,
-      ap (λ (es : List InputEvent). log_text (rows_of (row_in g.from g.wires es))) (sym (append-nil s.events)) ∙ ap log_text rest.1
-          ∙ text-append (rows_before g.from g.wires s.events) rest.0,
+      text_by g rest.0,
+      ap (λ (es : List InputEvent). text_by g (rows_of (row_in g.from g.wires es))) (sym (append-nil s.events)) ∙ ap (text_by g) rest.1
+          ∙ append-in (form_of_wires g.wires) (rows_before g.from g.wires s.events) rest.0,
     )
 
 -- what was written before is a prefix
@@ -80,9 +81,11 @@ wrote-more g bytes more old new w = record {
 }
 
 -- the log that is known grows by the rows of a line
-known-grows : (g : Given) (s t : Stand) (rows : KnownRows) → rows_before g.from g.wires t.events ≡ rows_before g.from g.wires s.events ++ rows_in rows
-    → known_log g t ≡ known_log g s ++ log_text (rows_in rows)
-known-grows g s t rows grown = ap log_text grown ∙ text-append (rows_before g.from g.wires s.events) (rows_in rows)
+known-grows : (g : Given) (s t : Stand) (f : Filter) (form : RowForm) (rows : KnownRows) → StandsAt g t f → form ≡ f.form
+    → rows_before g.from g.wires t.events ≡ rows_before g.from g.wires s.events ++ rows_in rows → known_log g t ≡ known_log g s ++ text_in form (rows_in rows)
+known-grows g s t f form rows at same grown =
+    ap (text_by g) grown ∙ append-in (form_of_wires g.wires) (rows_before g.from g.wires s.events) (rows_in rows)
+    ∙ ap (λ (it : RowForm). known_log g s ++ text_in it (rows_in rows)) (sym (same ∙ at.form))
 
 -- of a text after one that was written the first bytes have gone, and it begins a log
 front-of : (g : Given) (bytes : List ℕ) (s : Stand) (count : ℕ) (t : Stand) (before text tail : List ℕ) (a b c : Option (List ℕ)) → filtered g bytes ≡ Ok s → with_nexts g count s ≡ Ok t
@@ -112,28 +115,28 @@ write-fault (Err d) e is fault = let same : Err e ≡ Err Write = sym is ∙ fau
 -- ## A line
 
 -- the rows of a line that was taken are written, or the writer fails
-rows-went : (r : Result (Unit {0}) FilterError) (g : Given) (bytes : List ℕ) (s t : Stand) (stream : Stream) (rows : KnownRows) (a b c : Option (List ℕ))
+rows-went : (r : Result (Unit {0}) FilterError) (g : Given) (bytes : List ℕ) (s t : Stand) (stream : Stream) (form : RowForm) (rows : KnownRows) (a b c : Option (List ℕ)) → form ≡ stream.filter.form
     → HasRead g bytes stream.number t [] → filtered g bytes ≡ Ok t → stream.line ≡ [] → StandsAt g t stream.filter → Appends a b (known_log g s)
     → rows_before g.from g.wires t.events ≡ rows_before g.from g.wires s.events ++ rows_in rows
-    → OnOk r (Appends b c (log_text (rows_in rows))) → AppendsFront b c (log_text (rows_in rows)) → OnErr r (r ≡ Err Write) → Went r g bytes stream a c
-rows-went (Ok u) g bytes s t stream rows a b c read comes empty stands grown more ok front fault = record {
+    → OnOk r (Appends b c (text_in form (rows_in rows))) → AppendsFront b c (text_in form (rows_in rows)) → OnErr r (r ≡ Err Write) → Went r g bytes stream a c
+rows-went (Ok u) g bytes s t stream form rows a b c same read comes empty stands grown more ok front fault = record {
   stand = t;
   held = [];
   read = read;
   kept = empty;
   stands = stands;
-  grown = subst (λ (v : List ℕ). Appends a c v) (sym (known-grows g s t rows more)) (appends-more a b c (known_log g s) (log_text (rows_in rows)) grown ok);
+  grown = subst (λ (v : List ℕ). Appends a c v) (sym (known-grows g s t stream.filter form rows stands same more)) (appends-more a b c (known_log g s) (text_in form (rows_in rows)) grown ok);
 }
-rows-went (Err e) g bytes s t stream rows a b c read comes empty stands grown more ok front fault =
+rows-went (Err e) g bytes s t stream form rows a b c same read comes empty stands grown more ok front fault =
     let tail = known-begins g t stream.filter stands in (
-      front-of g bytes t 0 t (known_log g s) (log_text (rows_in rows)) tail.0 a b c comes refl grown front (tail.1 ∙ ap (λ (v : List ℕ). v ++ tail.0) (known-grows g s t rows more)),
+      front-of g bytes t 0 t (known_log g s) (text_in form (rows_in rows)) tail.0 a b c comes refl grown front (tail.1 ∙ ap (λ (v : List ℕ). v ++ tail.0) (known-grows g s t stream.filter form rows stands same more)),
       inl (let is : e ≡ Write = cc in is),
     )
 
-pub line-went : (r : Result (Unit {0}) FilterError) (g : Given) (bytes line : List ℕ) (old new : Stream) (rows : KnownRows) (a b c : Option (List ℕ)) → (f : Follows g bytes old a b)
+pub line-went : (r : Result (Unit {0}) FilterError) (g : Given) (bytes line : List ℕ) (old new : Stream) (form : RowForm) (rows : KnownRows) (a b c : Option (List ℕ)) → (f : Follows g bytes old a b) → form ≡ new.filter.form
     → line ≡ without_return old.line → Takes g f.stand (with_line g old.number f.stand line) (Ok rows) new.filter → new.line ≡ [] → new.number ≡ one_more old.number
-    → OnOk r (Appends b c (log_text (rows_in rows))) → AppendsFront b c (log_text (rows_in rows)) → OnErr r (r ≡ Err Write) → Went r g (bytes ++ 10 ∷ []) new a c
-line-went r g bytes line old new rows a b c f is takes empty next ok front fault = goes (with_line g old.number f.stand line) refl takes
+    → OnOk r (Appends b c (text_in form (rows_in rows))) → AppendsFront b c (text_in form (rows_in rows)) → OnErr r (r ≡ Err Write) → Went r g (bytes ++ 10 ∷ []) new a c
+line-went r g bytes line old new form rows a b c f formed is takes empty next ok front fault = goes (with_line g old.number f.stand line) refl takes
   where
     same : with_line g old.number f.stand line ≡ with_line g old.number f.stand (without_return f.held)
     same = ap (with_line g old.number f.stand) (is ∙ ap without_return f.kept) ∙ kept-line g old.number f.stand f.held
@@ -143,7 +146,7 @@ line-went r g bytes line old new rows a b c f is takes empty next ok front fault
     goes (Ok t) k stands =
         let read : HasRead g (bytes ++ 10 ∷ []) (one_more old.number) t [] = read-line g bytes old.number f.stand t f.held f.read (sym same ∙ k) in
         let here : HasRead g (bytes ++ 10 ∷ []) new.number t [] = subst (λ (n : ℕ). HasRead g (bytes ++ 10 ∷ []) n t []) (sym next) read in
-        rows-went r g (bytes ++ 10 ∷ []) f.stand t new rows a b c here (ap (filtered g) (here.whole ∙ append-nil here.front) ∙ front-comes g (bytes ++ 10 ∷ []) new.number t [] here)
+        rows-went r g (bytes ++ 10 ∷ []) f.stand t new form rows a b c formed here (ap (filtered g) (here.whole ∙ append-nil here.front) ∙ front-comes g (bytes ++ 10 ∷ []) new.number t [] here)
         empty stands.0 f.grown stands.1 ok front fault
 
 -- a line that has a fault
@@ -234,31 +237,31 @@ last-fault g bytes line old filter e a b f is takes = (wrote-before g bytes old 
     goes (Err d) k takes = all-comes g bytes old.number f.stand f.held (Err e) f.read (sym same ∙ k ∙ ap Err (sym takes))
 
 -- its rows are not written
-pub last-unwritten : (g : Given) (bytes : List ℕ) (old : Stream) (rows : KnownRows) (filter : Filter) (e : FilterError) (a b c : Option (List ℕ)) → LastTaken g bytes old rows filter a b
-    → AppendsFront b c (log_text (rows_in rows)) → e ≡ Write → WroteFront g bytes a c × ((e ≡ Write) ⊎ (all_of g bytes ≡ Err e))
-last-unwritten g bytes old rows filter e a b c l front is =
+pub last-unwritten : (g : Given) (bytes : List ℕ) (old : Stream) (form : RowForm) (rows : KnownRows) (filter : Filter) (e : FilterError) (a b c : Option (List ℕ)) → LastTaken g bytes old rows filter a b → form ≡ filter.form
+    → AppendsFront b c (text_in form (rows_in rows)) → e ≡ Write → WroteFront g bytes a c × ((e ≡ Write) ⊎ (all_of g bytes ≡ Err e))
+last-unwritten g bytes old form rows filter e a b c l same front is =
     let tail = known-begins g l.stand filter l.stands in (
-      front-of g bytes l.stand 0 l.stand (known_log g l.before) (log_text (rows_in rows)) tail.0 a b c l.comes refl l.grown front
-          (tail.1 ∙ ap (λ (v : List ℕ). v ++ tail.0) (known-grows g l.before l.stand rows l.more)),
+      front-of g bytes l.stand 0 l.stand (known_log g l.before) (text_in form (rows_in rows)) tail.0 a b c l.comes refl l.grown front
+          (tail.1 ∙ ap (λ (v : List ℕ). v ++ tail.0) (known-grows g l.before l.stand filter form rows l.stands same l.more)),
       inl is,
     )
 
 -- all that is known by the lines is written
-pub known-last : (g : Given) (bytes : List ℕ) (old : Stream) (rows : KnownRows) (filter : Filter) (a b c : Option (List ℕ)) → (l : LastTaken g bytes old rows filter a b)
-    → Appends b c (log_text (rows_in rows)) → Known g bytes l.stand 0 filter a c
-known-last g bytes old rows filter a b c l ok = record {
+pub known-last : (g : Given) (bytes : List ℕ) (old : Stream) (form : RowForm) (rows : KnownRows) (filter : Filter) (a b c : Option (List ℕ)) → (l : LastTaken g bytes old rows filter a b) → form ≡ filter.form
+    → Appends b c (text_in form (rows_in rows)) → Known g bytes l.stand 0 filter a c
+known-last g bytes old form rows filter a b c l same ok = record {
   stand = l.stand;
   comes = l.comes;
   taken = refl;
   stands = l.stands;
-  grown = subst (λ (v : List ℕ). Appends a c v) (sym (known-grows g l.before l.stand rows l.more)) (appends-more a b c (known_log g l.before) (log_text (rows_in rows)) l.grown ok);
+  grown = subst (λ (v : List ℕ). Appends a c v) (sym (known-grows g l.before l.stand filter form rows l.stands same l.more)) (appends-more a b c (known_log g l.before) (text_in form (rows_in rows)) l.grown ok);
 }
 
 -- its rows are written, or the writer fails
-pub last-took : (r : Result (Unit {0}) FilterError) (g : Given) (bytes : List ℕ) (old : Stream) (rows : KnownRows) (filter : Filter) (a b c : Option (List ℕ)) → LastTaken g bytes old rows filter a b
-    → OnOk r (Appends b c (log_text (rows_in rows))) → AppendsFront b c (log_text (rows_in rows)) → OnErr r (r ≡ Err Write) → TookLast r g bytes filter a c
-last-took (Ok u) g bytes old rows filter a b c l ok front fault = (l.stand, known-last g bytes old rows filter a b c l ok)
-last-took (Err e) g bytes old rows filter a b c l ok front fault = last-unwritten g bytes old rows filter e a b c l front (write-fault (Err e) e refl fault)
+pub last-took : (r : Result (Unit {0}) FilterError) (g : Given) (bytes : List ℕ) (old : Stream) (form : RowForm) (rows : KnownRows) (filter : Filter) (a b c : Option (List ℕ)) → LastTaken g bytes old rows filter a b → form ≡ filter.form
+    → OnOk r (Appends b c (text_in form (rows_in rows))) → AppendsFront b c (text_in form (rows_in rows)) → OnErr r (r ≡ Err Write) → TookLast r g bytes filter a c
+last-took (Ok u) g bytes old form rows filter a b c l same ok front fault = (l.stand, known-last g bytes old form rows filter a b c l same ok)
+last-took (Err e) g bytes old form rows filter a b c l same ok front fault = last-unwritten g bytes old form rows filter e a b c l same front (write-fault (Err e) e refl fault)
 
 -- ## The rows that are held
 
@@ -289,9 +292,9 @@ known-wrote g bytes before n filter a c k =
     }
 
 -- one more is taken
-pub next-taken : (g : Given) (bytes : List ℕ) (before : Stand) (n : ℕ) (old new : Filter) (rows : KnownRows) (a b c : Option (List ℕ)) → (k : Known g bytes before n old a b)
-    → Takes g k.stand (with_next g k.stand) (Ok rows) new → Appends b c (log_text (rows_in rows)) → Known g bytes before (n + 1) new a c
-next-taken g bytes before n old new rows a b c k takes ok =
+pub next-taken : (g : Given) (bytes : List ℕ) (before : Stand) (n : ℕ) (old new : Filter) (form : RowForm) (rows : KnownRows) (a b c : Option (List ℕ)) → (k : Known g bytes before n old a b) → form ≡ new.form
+    → Takes g k.stand (with_next g k.stand) (Ok rows) new → Appends b c (text_in form (rows_in rows)) → Known g bytes before (n + 1) new a c
+next-taken g bytes before n old new form rows a b c k same takes ok =
     let more : suc n ≡ n + 1 = omega arith in
     subst (λ (m : ℕ). Known g bytes before m new a c) more (goes (with_next g k.stand) refl takes)
   where
@@ -302,20 +305,20 @@ next-taken g bytes before n old new rows a b c k takes ok =
       comes = k.comes;
       taken = ap (next_after g) k.taken ∙ is;
       stands = stands.0;
-      grown = subst (λ (v : List ℕ). Appends a c v) (sym (known-grows g k.stand t rows stands.1)) (appends-more a b c (known_log g k.stand) (log_text (rows_in rows)) k.grown ok);
+      grown = subst (λ (v : List ℕ). Appends a c v) (sym (known-grows g k.stand t new form rows stands.0 same stands.1)) (appends-more a b c (known_log g k.stand) (text_in form (rows_in rows)) k.grown ok);
     }
 
 -- its rows are not written
-pub next-unwritten : (g : Given) (bytes : List ℕ) (before : Stand) (n : ℕ) (old new : Filter) (rows : KnownRows) (e : FilterError) (a b c : Option (List ℕ)) → (k : Known g bytes before n old a b)
-    → Takes g k.stand (with_next g k.stand) (Ok rows) new → AppendsFront b c (log_text (rows_in rows)) → e ≡ Write → WroteFront g bytes a c × ((e ≡ Write) ⊎ (all_of g bytes ≡ Err e))
-next-unwritten g bytes before n old new rows e a b c k takes front write = (goes (with_next g k.stand) refl takes, inl write)
+pub next-unwritten : (g : Given) (bytes : List ℕ) (before : Stand) (n : ℕ) (old new : Filter) (form : RowForm) (rows : KnownRows) (e : FilterError) (a b c : Option (List ℕ)) → (k : Known g bytes before n old a b) → form ≡ new.form
+    → Takes g k.stand (with_next g k.stand) (Ok rows) new → AppendsFront b c (text_in form (rows_in rows)) → e ≡ Write → WroteFront g bytes a c × ((e ≡ Write) ⊎ (all_of g bytes ≡ Err e))
+next-unwritten g bytes before n old new form rows e a b c k same takes front write = (goes (with_next g k.stand) refl takes, inl write)
   where
     goes : (x : Result Stand FilterError) → with_next g k.stand ≡ x → Takes g k.stand x (Ok rows) new → WroteFront g bytes a c
     goes (Err d) is t = absurd t
     goes (Ok t) is stands =
         let tail = known-begins g t new stands.0 in
-        front-of g bytes before (suc n) t (known_log g k.stand) (log_text (rows_in rows)) tail.0 a b c k.comes (ap (next_after g) k.taken ∙ is) k.grown front
-        (tail.1 ∙ ap (λ (v : List ℕ). v ++ tail.0) (known-grows g k.stand t rows stands.1))
+        front-of g bytes before (suc n) t (known_log g k.stand) (text_in form (rows_in rows)) tail.0 a b c k.comes (ap (next_after g) k.taken ∙ is) k.grown front
+        (tail.1 ∙ ap (λ (v : List ℕ). v ++ tail.0) (known-grows g k.stand t new form rows stands.0 same stands.1))
 
 -- a fault stays, whatever is held behind it
 stuck : (g : Given) (s : Stand) (e : FilterError) (n m : ℕ) → with_nexts g n s ≡ Err e → n ≤ m → with_nexts g m s ≡ Err e
@@ -370,7 +373,7 @@ all-known g bytes before filter a c k = record {
 
 -- the log is too long
 pub end-long : (g : Given) (bytes : List ℕ) (filter : Filter) (e : FilterError) (a c : Option (List ℕ)) → (k : AllKnown g bytes filter a c) → e ≡ LogTooLarge
-    → 1720740 < length (rows_of (row_in g.from g.wires k.stand.events)) → Finished (Err e) g bytes a c
+    → 67108864 < length (whole_log g k.stand) → Finished (Err e) g bytes a c
 end-long g bytes filter e a c k is long =
     let tail = known-begins g k.stand filter k.stands in (
       record {
@@ -391,37 +394,34 @@ end-long g bytes filter e a c k is long =
     )
 
 -- the log is whole
-whole-is : (g : Given) (s : Stand) (rest : KnownRows) → rows_before g.from g.wires s.events ++ rows_in rest ≡ rows_of (row_in g.from g.wires s.events)
-    → whole_log g s ≡ known_log g s ++ log_text (rows_in rest)
-whole-is g s rest is = ap log_text (sym is) ∙ text-append (rows_before g.from g.wires s.events) (rows_in rest)
+whole-is : (g : Given) (s : Stand) (f : Filter) (form : RowForm) (rest : KnownRows) → StandsAt g s f → form ≡ f.form → rows_before g.from g.wires s.events ++ rows_in rest ≡ rows_of (row_in g.from g.wires s.events)
+    → whole_log g s ≡ known_log g s ++ text_in form (rows_in rest)
+whole-is g s f form rest at same is =
+    ap (text_by g) (sym is) ∙ append-in (form_of_wires g.wires) (rows_before g.from g.wires s.events) (rows_in rest)
+    ∙ ap (λ (it : RowForm). known_log g s ++ text_in it (rows_in rest)) (sym (same ∙ at.form))
 
 -- its last rows are not written
-pub end-unwritten : (g : Given) (bytes : List ℕ) (filter : Filter) (rest : KnownRows) (e : FilterError) (a b c : Option (List ℕ)) → (k : AllKnown g bytes filter a b)
-    → rows_before g.from g.wires k.stand.events ++ rows_in rest ≡ rows_of (row_in g.from g.wires k.stand.events) → AppendsFront b c (log_text (rows_in rest)) → e ≡ Write → Finished (Err e) g bytes a c
-end-unwritten g bytes filter rest e a b c k whole front is =
-    (front-of g bytes k.before k.count k.stand (known_log g k.stand) (log_text (rows_in rest)) [] a b c k.first k.taken k.grown front (whole-is g k.stand rest whole ∙ sym (append-nil (known_log g k.stand ++ log_text (rows_in rest)))), inl is)
+pub end-unwritten : (g : Given) (bytes : List ℕ) (filter : Filter) (form : RowForm) (rest : KnownRows) (e : FilterError) (a b c : Option (List ℕ)) → (k : AllKnown g bytes filter a b) → form ≡ filter.form
+    → rows_before g.from g.wires k.stand.events ++ rows_in rest ≡ rows_of (row_in g.from g.wires k.stand.events) → AppendsFront b c (text_in form (rows_in rest)) → e ≡ Write → Finished (Err e) g bytes a c
+end-unwritten g bytes filter form rest e a b c k same whole front is =
+    (front-of g bytes k.before k.count k.stand (known_log g k.stand) (text_in form (rows_in rest)) [] a b c k.first k.taken k.grown front (whole-is g k.stand filter form rest k.stands same whole ∙ sym (append-nil (known_log g k.stand ++ text_in form (rows_in rest)))), inl is)
 
-grown-whole : (g : Given) (s : Stand) (rest : KnownRows) (a b c : Option (List ℕ)) → rows_before g.from g.wires s.events ++ rows_in rest ≡ rows_of (row_in g.from g.wires s.events)
-    → Appends a b (known_log g s) → Appends b c (log_text (rows_in rest)) → Appends a c (whole_log g s)
-grown-whole g s rest a b c whole grown ok = subst (λ (v : List ℕ). Appends a c v) (sym (whole-is g s rest whole)) (appends-more a b c (known_log g s) (log_text (rows_in rest)) grown ok)
+grown-whole : (g : Given) (s : Stand) (f : Filter) (form : RowForm) (rest : KnownRows) (a b c : Option (List ℕ)) → StandsAt g s f → form ≡ f.form → rows_before g.from g.wires s.events ++ rows_in rest ≡ rows_of (row_in g.from g.wires s.events)
+    → Appends a b (known_log g s) → Appends b c (text_in form (rows_in rest)) → Appends a c (whole_log g s)
+grown-whole g s f form rest a b c at same whole grown ok = subst (λ (v : List ℕ). Appends a c v) (sym (whole-is g s f form rest at same whole)) (appends-more a b c (known_log g s) (text_in form (rows_in rest)) grown ok)
 
 -- readers of logs take the whole one
-whole-taken : (g : Given) (s : Stand) → length (rows_of (row_in g.from g.wires s.events)) ≤ 1720740 → log_of (whole_log g s) ≡ Ok (rows_of (row_in g.from g.wires s.events))
-whole-taken g s few =
-    let long : length (whole_log g s) ≡ 39 * length (rows_of (row_in g.from g.wires s.events)) = text-length (rows_of (row_in g.from g.wires s.events)) in
-    logs g.from g.wires s.events (omega (arith, long, few))
-
-pub end-whole : (g : Given) (bytes : List ℕ) (filter : Filter) (rest : KnownRows) (summary : Summary) (a b c : Option (List ℕ)) → (k : AllKnown g bytes filter a b)
-    → length (rows_of (row_in g.from g.wires k.stand.events)) ≤ 1720740 → rows_before g.from g.wires k.stand.events ++ rows_in rest ≡ rows_of (row_in g.from g.wires k.stand.events) → Appends b c (log_text (rows_in rest))
+pub end-whole : (g : Given) (bytes : List ℕ) (filter : Filter) (form : RowForm) (rest : KnownRows) (summary : Summary) (a b c : Option (List ℕ)) → (k : AllKnown g bytes filter a b) → form ≡ filter.form
+    → length (whole_log g k.stand) ≤ 67108864 → rows_before g.from g.wires k.stand.events ++ rows_in rest ≡ rows_of (row_in g.from g.wires k.stand.events) → Appends b c (text_in form (rows_in rest))
     → summary ≡ summary_at g k.stand → Finished (Ok summary) g bytes a c
-end-whole g bytes filter rest summary a b c k few whole ok is = (
+end-whole g bytes filter form rest summary a b c k same few whole ok is = (
   whole_log g k.stand,
-  grown-whole g k.stand rest a b c whole k.grown ok,
+  grown-whole g k.stand filter form rest a b c k.stands same whole k.grown ok,
   record {
     stand = k.stand;
     comes = k.comes;
     told = is;
     log = refl;
-    taken = whole-taken g k.stand few;
+    taken = logs g.from g.wires k.stand.events few;
   },
 )

@@ -1,10 +1,10 @@
 -- What lines of events come to, one after another: the events of inputs that they tell, what they leave out, or the first
 -- fault.
 use Rattle.std.specs.Prelude.{ℕ, zero, suc, ◌+◌, ◌-◌, ◌*◌, ◌==◌, ◌&&◌, ◌||◌, min, max, nat_le, filter, nat_lt, not, position, replicate, set, Bool, true, false, List, [], ◌∷◌, ◌++◌, length, if◌then◌else◌, Option, Some, None, Result, Ok, Err}
-use Rattle.std.specs.List.{list_any}
 use Rattle.tsb_log_text.specs.tsb_types.declared.limits.TheConstants.{TICKS}
-use Rattle.tsb_log_text.specs.declared.form.RowForm.{RowForm}
-use Rattle.tsb_log_text.specs.declared.form.RowForm.TheVariants.{Digits, Lists}
+use Rattle.tsb_log_text.specs.ListText.{text_in}
+use Rattle.tsb_log_text.specs.declared.log.LogRow.{LogRow}
+use Rattle.tsb_log_text.specs.declared.read.TheConstants.{LIMIT}
 use Rattle.tsb_lines.specs.Lines.{is_skipped}
 use Rattle.tsb_event_text.specs.declared.columns.Columns.{Columns}
 use Rattle.tsb_event_text.specs.declared.rows.EventRow.{EventRow}
@@ -24,8 +24,9 @@ use Rattle.tsb_field_log.specs.declared.inputs.InputKind.{InputKind}
 use Rattle.tsb_field_log.specs.declared.inputs.Signal.{Signal}
 use Rattle.tsb_field_log.specs.declared.inputs.Wire.{Wire}
 use Rattle.tsb_field_log.specs.declared.inputs.InputEvent.{InputEvent}
-use Rattle.tsb_field_log.specs.Inputs.{inputs_in_digits, signal_of}
+use Rattle.tsb_field_log.specs.Inputs.{signal_of}
 use Rattle.tsb_field_log.specs.Mapping.{leads_from}
+use Rattle.tsb_field_log.specs.Wires.{form_of_wires}
 use Rattle.tsb_field_log.specs.Streets.{tick_at}
 use Rattle.tsb_field_log.specs.Pushed.{last_tick, rows_before}
 use Rattle.tsb_field_streams.specs.Order.{first_before, first_of, placed, rest_before, rest_of}
@@ -37,7 +38,7 @@ use Rattle.tsb_field_streams.specs.declared.filter.channels.Channels.{Channels}
 use Rattle.tsb_field_streams.specs.declared.filter.devices.Devices.{Devices}
 use Rattle.tsb_field_streams.specs.declared.filter.gaps.Gaps.{Gaps}
 use Rattle.tsb_field_streams.specs.declared.filter.Summary.{Summary}
-use Rattle.tsb_field_streams.specs.declared.filter.TheConstants.{LINE, MOST_ROWS}
+use Rattle.tsb_field_streams.specs.declared.filter.TheConstants.{LINE}
 use Rattle.tsb_field_streams.specs.declared.filter.gaps.TheConstants.{GAP}
 use Rattle.tsb_field_streams.specs.declared.filter.late.TheConstants.{MOST_HELD}
 use Rattle.tsb_field_streams.specs.declared.filter.zones.TheConstants.{ELSEWHERE}
@@ -105,10 +106,14 @@ start g = record {
 abbrev pub one_more : ℕ → ℕ
 one_more n = min (n + 1) 4294967295
 
+-- the text of these rows, in the form of a log by the wires
+abbrev pub text_by : Given → List LogRow → List ℕ
+text_by g rows = text_in (form_of_wires g.wires) rows
+
 -- these events, where the log of what they make known is not too large
 abbrev pub with_events : Given → Stand → List InputEvent → Result Stand FilterError
 with_events g s events =
-    if nat_lt MOST_ROWS (length (rows_before g.from g.wires events)) then Err LogTooLarge else Ok (record s { events = events })
+    if nat_lt LIMIT (length (text_by g (rows_before g.from g.wires events))) then Err LogTooLarge else Ok (record s { events = events })
 
 -- one more event of an input, which has to lie within the ticks of a bench
 abbrev pub with_event : Given → Stand → InputEvent → Result Stand FilterError
@@ -384,7 +389,3 @@ summary_at g s = record {
   channels = how_many s.used;
   heard = is_heard g.from s.events;
 }
-
--- the form of a log by these wires: lists, where one leads to an input for which rows in digits have none
-abbrev pub form_of_wires : List Wire → RowForm
-form_of_wires wires = if list_any (λ w. nat_lt (inputs_in_digits w.kind) w.input) wires then Lists else Digits

@@ -7,13 +7,14 @@ use Rattle.tsb_field_log.specs.declared.street.KnownRows.{KnownRows}
 use Rattle.tsb_field_log.specs.Streets.{tick_at, rows_in}
 use Rattle.tsb_field_log.specs.Pushed.{last_tick, rows_before}
 use Rattle.tsb_field_log.specs.Taken.{HasTaken}
+use Rattle.tsb_field_log.specs.Wires.{form_of_wires}
+use Rattle.tsb_log_text.specs.declared.read.TheConstants.{LIMIT}
 use Rattle.tsb_field_streams.specs.Holding.{held_rows, most_rows}
 use Rattle.tsb_field_streams.specs.declared.error.FilterError.{FilterError}
 use Rattle.tsb_field_streams.specs.declared.filter.Filter.{Filter}
 use Rattle.tsb_field_streams.specs.declared.filter.RowOptions.{RowOptions}
 use Rattle.tsb_field_streams.specs.declared.filter.LeftOut.{LeftOut}
-use Rattle.tsb_field_streams.specs.declared.filter.TheConstants.{MOST_ROWS}
-use Rattle.tsb_field_streams.specs.Filtering.{Given, Stand, most_held, start}
+use Rattle.tsb_field_streams.specs.Filtering.{Given, Stand, most_held, start, text_by}
 
 -- what a filter left out so far
 abbrev pub left_out_of : Filter → LeftOut
@@ -58,8 +59,9 @@ pub record StandsAt (g : Given) (s : Stand) (f : Filter) : Type 0 where
   pub found : f.left_out.found ≡ is_there s.columns
   pub street : HasTaken g.from g.wires s.events f.street
   pub behind : last_tick g.from s.events ≤ tick_at g.from s.last
-  pub rows : f.rows ≡ length (rows_before g.from g.wires s.events)
-  pub few : f.rows ≤ MOST_ROWS
+  pub form : f.form ≡ form_of_wires g.wires
+  pub bytes : f.bytes ≡ length (text_by g (rows_before g.from g.wires s.events))
+  pub few : f.bytes ≤ LIMIT
   pub held : held_rows f.held ≡ s.held
   pub most : most_rows f.held ≡ most_held g.window
   pub latest : f.latest ≡ s.latest

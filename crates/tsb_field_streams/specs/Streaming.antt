@@ -4,27 +4,26 @@ use Rattle.std.specs.Io.KnownBytes.{Appends, Consumes, IsAtEnd}
 use Rattle.tsb_lines.specs.Lines.{kept}
 use Rattle.tsb_log_text.specs.Logs.{log_of}
 use Rattle.tsb_field_log.specs.Changes.{rows_of}
-use Rattle.tsb_log_text.specs.ListText.{text_in}
 use Rattle.tsb_field_log.specs.Pushed.{rows_before}
 use Rattle.tsb_field_log.specs.Ticks.{row_in}
 use Rattle.tsb_field_streams.specs.declared.error.FilterError.{FilterError}
 use Rattle.tsb_field_streams.specs.declared.error.FilterError.TheVariants.{Memory, Read, Write, TooLarge, LogTooLarge}
 use Rattle.tsb_field_streams.specs.declared.filter.Filter.{Filter}
 use Rattle.tsb_field_streams.specs.declared.filter.Summary.{Summary}
-use Rattle.tsb_field_streams.specs.declared.filter.TheConstants.{MOST_ROWS}
+use Rattle.tsb_log_text.specs.declared.read.TheConstants.{LIMIT}
 use Rattle.tsb_field_streams.specs.declared.stream.Stream.{Stream}
 use Rattle.tsb_field_streams.specs.declared.stream.TheConstants.{EVENTS, KEPT}
-use Rattle.tsb_field_streams.specs.Filtering.{Given, Stand, form_of_wires, summary_at, with_nexts}
+use Rattle.tsb_field_streams.specs.Filtering.{Given, Stand, summary_at, text_by, with_nexts}
 use Rattle.tsb_field_streams.specs.Lines.{HasRead, all_of, filtered}
 use Rattle.tsb_field_streams.specs.Standing.{StandsAt}
 
 -- the log as far as it is known where a text has come to this
 abbrev pub known_log : Given → Stand → List ℕ
-known_log g s = text_in (form_of_wires g.wires) (rows_before g.from g.wires s.events)
+known_log g s = text_by g (rows_before g.from g.wires s.events)
 
 -- the whole log, where no line follows
 abbrev pub whole_log : Given → Stand → List ℕ
-whole_log g s = text_in (form_of_wires g.wires) (rows_of (row_in g.from g.wires s.events))
+whole_log g s = text_by g (rows_of (row_in g.from g.wires s.events))
 
 -- a stream has read these bytes, and written all of the log that is known by them: `old` is what the writer held before
 -- the first of them, and `new` what it holds. Of a line that is not whole its first bytes are kept.
@@ -93,7 +92,7 @@ pub record IsWhole (g : Given) (bytes : List ℕ) (summary : Summary) (written :
 pub record IsTooLong (g : Given) (bytes : List ℕ) : Type 0 where
   pub stand : Stand
   pub comes : all_of g bytes ≡ Ok stand
-  pub long : MOST_ROWS < length (rows_of (row_in g.from g.wires stand.events))
+  pub long : LIMIT < length (whole_log g stand)
 
 -- the fault of bytes that are all: of their last line, or of the length of their log
 abbrev pub IsFaultOfAll : Given → List ℕ → FilterError → Type 0

@@ -7,7 +7,8 @@ ghost use Rattle.tsb_field_log.specs.Pushed.{rows_before};
 ghost use Rattle.tsb_field_log.specs.Ticks.{row_in};
 ghost use Rattle.tsb_field_log.specs.Taken.{HasTaken};
 ghost use Rattle.tsb_field_streams.specs.Holding.{held_rows, most_rows};
-ghost use Rattle.tsb_field_streams.specs.Filtering.{Given, Stand, form_of_wires, how_many, may_be_plain, most_held, parameter_of, start, summary_at, text_of, time_place, with_count, with_counted, with_first, with_formed, with_header, with_in_order, with_line, with_noted, with_other_line, with_passed, with_row, with_row_line, with_text, with_wide, without_mark};
+ghost use Rattle.tsb_field_streams.specs.Filtering.{Given, Stand, how_many, may_be_plain, most_held, parameter_of, start, summary_at, text_by, text_of, time_place, with_count, with_counted, with_first, with_formed, with_header, with_in_order, with_line, with_noted, with_other_line, with_passed, with_row, with_row_line, with_text, with_wide, without_mark};
+ghost use Rattle.tsb_log_text.specs.declared.read.TheConstants.{LIMIT};
 ghost use Rattle.tsb_field_streams.specs.Blame.{IsOfText};
 ghost use Rattle.tsb_field_streams.specs.declared.error.FilterError.TheVariants.{LogTooLarge};
 
@@ -20,6 +21,7 @@ mod zones;
 
 use crate::Held;
 use crate::error::{Disorder, FilterError};
+use crate::rows::text_size;
 pub use channels::{Channel, Channels, append_channels};
 use channels::{NO_CHANNELS, with_channel};
 pub use devices::{Devices, MOST_NAMED, append_devices, are_several};
@@ -32,15 +34,12 @@ use tsb_event_text::{
     Column, Columns, EventRow, Moment, RowFault, TimeForm, WideRow, Zone, device_of, event_row,
     header, is_passed, is_preface, row_fault, wide_row,
 };
-use tsb_field_log::{KnownRows, Signal, Street, Wire};
+use tsb_field_log::{KnownRows, Signal, Street, Wire, form_of_wires};
 use tsb_lines::is_skipped;
-use tsb_log_text::RowForm;
+use tsb_log_text::{LIMIT, RowForm};
 
 /// The greatest length of a line, in bytes.
 pub const LINE: usize = 1000;
-
-/// The most rows of a log: as many of 39 bytes as 64 MiB hold.
-pub const MOST_ROWS: u32 = 1_720_740;
 
 /// How rows are read.
 #[derive(Clone, Copy)]
@@ -122,8 +121,10 @@ pub struct Filter<'a> {
     unwired: Channels,
     /// For each wire whether it is the first of its channel and had an event.
     used: Vec<bool>,
-    /// How many rows of the log are known.
-    rows: u32,
+    /// The form of the log.
+    form: RowForm,
+    /// How many bytes of the log are known.
+    bytes: usize,
     left_out: LeftOut,
     street: Street,
     /// Rows that count and wait until none can come before them any more. None where each has to be in order.
@@ -144,7 +145,6 @@ impl<'a> Filter<'a> {
     /// A filter before the first line, where the street has taken no event yet. Rows of `device` count, byte for byte, or
     /// all where it is `None`. `wires` are those that the street was made with, and `used` says of none of them that it had
     /// an event. `held` holds no row yet, and as many as are held in such a reading (`most_held`).
-    #[tactic(auto, using(crate::proofs::FilterLemmas::none_known))]
     pub fn new(
         reading: RowOptions,
         device: Option<&'a [u8]>,
@@ -170,7 +170,8 @@ impl<'a> Filter<'a> {
             devices: NO_DEVICES,
             unwired: NO_CHANNELS,
             used,
-            rows: 0,
+            form: form_of_wires(wires),
+            bytes: 0,
             left_out: LeftOut {
                 of_other_devices: 0,
                 without_input: 0,
@@ -432,34 +433,31 @@ impl<'a> Filter<'a> {
     pub fn finish(&mut self) -> Result<KnownRows, FilterError>
         ensures whole { (g : Given) (s : Stand) → StandsAt g s self.old → MatchResult result
             (λ rows. rows_before g.from g.wires s.events ++ rows_in rows ≡ rows_of (row_in g.from g.wires s.events))
-            (λ e. (e ≡ LogTooLarge) × (MOST_ROWS < length (rows_of (row_in g.from g.wires s.events)))) }
-        ensures fits { (g : Given) (s : Stand) → StandsAt g s self.old → OnOk result (length (rows_of (row_in g.from g.wires s.events)) ≤ MOST_ROWS) }
+            (λ e. (e ≡ LogTooLarge) × (LIMIT < length (text_by g (rows_of (row_in g.from g.wires s.events))))) }
+        ensures fits { (g : Given) (s : Stand) → StandsAt g s self.old → OnOk result (length (text_by g (rows_of (row_in g.from g.wires s.events))) ≤ LIMIT) }
         ensures counts { left_out_of self.new ≡ left_out_of self.old }
         ensures own { IfErr result IsOfText }
     {
         let rows = self.street.finish();
-        if !self.has_room(rows) {
+        let size = text_size(self.form, rows);
+        if !self.has_room(size) {
             return Err(FilterError::LogTooLarge);
         }
         Ok(rows)
     }
 
-    /// Whether a log may have these rows as well.
-    fn has_room(&self, rows: KnownRows) -> bool
-        ensures { result ≡ nat_le (length (rows_in rows)) (MOST_ROWS - self.now.rows) }
+    /// Whether a log may have so many bytes more.
+    fn has_room(&self, size: usize) -> bool
+        ensures { result ≡ nat_le size (LIMIT - self.now.bytes) }
     {
-        count_of(rows) <= MOST_ROWS.saturating_sub(self.rows)
+        size <= LIMIT.saturating_sub(self.bytes)
     }
 
-    /// The form of the log: lists, where a wire leads to an input for which rows in digits have none.
+    /// The form of the log.
     pub(crate) fn form(&self) -> RowForm
-        ensures { (g : Given) (s : Stand) → StandsAt g s self.now → result ≡ form_of_wires g.wires }
+        ensures { result ≡ self.now.form }
     {
-        if self.wires.iter().any(|wire| wire.input > wire.kind.digits()) {
-            RowForm::Lists
-        } else {
-            RowForm::Digits
-        }
+        self.form
     }
 
     /// What was read so far, before `finish`.
@@ -521,14 +519,6 @@ fn parameter_of(row: WideRow) -> Option<u32>
         return None;
     }
     Some(0)
-}
-
-/// How many rows these are.
-fn count_of(rows: KnownRows) -> u32
-    ensures count { result ≡ length (rows_in rows) }
-    ensures few { result ≤ 2 }
-{
-    rows.first.is_some() as u32 + rows.second.is_some() as u32
 }
 
 /// The text of the line with this number: the first may begin with a byte order mark.

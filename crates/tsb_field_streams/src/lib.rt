@@ -15,8 +15,8 @@ mod zone_laws;
 pub use error::{Disorder, FilterError};
 pub use fault_lines::{FaultLine, LONGEST};
 pub use filter::{
-    Channel, Channels, Devices, Filter, Gaps, LINE, LeftOut, MOST_HELD, MOST_NAMED, MOST_ROWS,
-    RowOptions, Summary, append_channels, append_devices, are_several,
+    Channel, Channels, Devices, Filter, Gaps, LINE, LeftOut, MOST_HELD, MOST_NAMED, RowOptions,
+    Summary, append_channels, append_devices, are_several,
 };
 pub use held::Held;
 pub use laws::late_rows_tell_what_sorted_rows_tell;

@@ -70,6 +70,14 @@ fn pass_rows_on<W: Write>(writer: &mut Watched<W>) -> Result<(), FilterError>
     }
 }
 
+/// How many bytes the lines of rows in a form have.
+pub(crate) fn text_size(form: RowForm, rows: KnownRows) -> usize
+    ensures size { result ≡ length (text_in form (rows_in rows)) }
+    ensures few { result ≤ ROWS }
+{
+    rows_text(form, rows).as_bytes().len()
+}
+
 /// The lines of rows in a form.
 #[tactic(auto, using(crate::proofs::RowLemmas::two_rows))]
 fn rows_text(form: RowForm, rows: KnownRows) -> ShortLine<ROWS>

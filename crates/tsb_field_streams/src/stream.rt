@@ -130,11 +130,12 @@ impl Stream<'_> {
         ensures memory { HasMemory result }
     {
         let summary = self.filter.summary();
+        let form = self.filter.form();
         let rest = match self.filter.finish() {
             Ok(rest) => rest,
             Err(fault) => return Err(fault),
         };
-        match write_last_rows(writer, self.filter.form(), rest) {
+        match write_last_rows(writer, form, rest) {
             Ok(()) => Ok(summary),
             Err(fault) => Err(fault),
         }

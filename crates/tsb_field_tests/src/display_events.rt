@@ -76,6 +76,29 @@ fn lines_show_their_heads(rt: HostRuntime) {
     assert!(rt; shows_clearing(&clearing) && shows_last(&last));
 }
 
+/// A wide line: overlaps 1 and 16 green, overlap 5 yellow, and preempt 8 in service.
+const WIDE: &[u8] = b"0000045 -G-R------------ -C-------------- G--- 8 0759 G---Y----------G";
+
+/// Whether this is shown of the wide line.
+fn shows_wide(shown: &Shown) -> bool {
+    let signals = &shown.signals;
+    shown.tick == 45
+        && signals.vehicles.greens == set(2)
+        && signals.pedestrians.clearances == set(2)
+        && signals.overlaps.greens == set(32_769)
+        && signals.overlaps.yellows == set(16)
+        && signals.preempt == Some(8)
+}
+
+#[test]
+fn wide_lines_show_all_overlaps(rt: HostRuntime) {
+    let Some(wide) = read_line(WIDE, true) else {
+        panic!(rt; "nothing is shown");
+    };
+    assert!(rt; shows_wide(&wide));
+    assert!(rt; read_line(WIDE, false).is_none() && read_line(CLEARING, true).is_none());
+}
+
 /// Answers that are no display lines.
 const OTHERS: [&[u8]; 12] = [
     b"",
@@ -87,7 +110,7 @@ const OTHERS: [&[u8]; 12] = [
     b"0000001 -R-W------------ -D-------------- R--- 0 ----",
     b"0000001 -R-R------------ -G-------------- R--- 0 ----",
     b"0000001 -R-R------------ -D-------------- D--- 0 ----",
-    b"0000001 -R-R------------ -D-------------- R--- 5 ----",
+    b"0000001 -R-R------------ -D-------------- R--- 9 ----",
     b"0000001 -R-R------------ -D-------------- R--- 0 07--",
     b"0000001 -R-R-------------D--------------- R--- 0 ----",
 ];
@@ -153,6 +176,42 @@ fn tells_of_flash_and_last(alloc: Global) -> bool {
 #[test]
 fn changes_have_their_events(rt: HostRuntime) {
     assert!(rt; tells_of_signals(rt.alloc()) && tells_of_flash_and_last(rt.alloc()));
+}
+
+/// An arrow that is red beside a green phase.
+const ARROW_RED: &[u8] = b"0000097 -G-------------- ---------------- R--- 0 ----";
+
+/// It flashes yellow.
+const ARROW_FLASHES: &[u8] = b"0000021 -G-------------- ---------------- P--- 0 ----";
+
+/// It is yellow.
+const ARROW_YELLOW: &[u8] = b"0000061 -G-------------- ---------------- Y--- 0 ----";
+
+/// All heads flash red.
+const ARROW_TRIPS: &[u8] = b"0000061 -F-------------- ---------------- F--- 0 ----";
+
+/// Whether an arrow has its own events where it begins to flash yellow and ends, and those of an overlap.
+fn tells_of_arrows(alloc: Global) -> bool {
+    tells(alloc, ARROW_RED, ARROW_FLASHES, &[(21, 32, 1)])
+        && tells(
+            alloc,
+            ARROW_FLASHES,
+            ARROW_YELLOW,
+            &[(61, 33, 1), (61, 63, 1)],
+        )
+        && tells(alloc, ARROW_YELLOW, ARROW_RED, &[(97, 64, 1)])
+        && tells(alloc, ARROW_YELLOW, ARROW_FLASHES, &[(21, 32, 1)])
+        && tells(
+            alloc,
+            ARROW_FLASHES,
+            ARROW_TRIPS,
+            &[(61, 7, 2), (61, 33, 1), (61, 64, 1), (61, 173, 6)],
+        )
+}
+
+#[test]
+fn arrows_have_their_events(rt: HostRuntime) {
+    assert!(rt; tells_of_arrows(rt.alloc()));
 }
 
 fn at(tick: u32, line: &[u8]) -> Shown {

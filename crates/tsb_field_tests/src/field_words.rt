@@ -102,11 +102,14 @@ fn log_words_name_a_plan(rt: HostRuntime) {
     assert!(rt; are_bad(rt.alloc(), &[&none, &two]));
 }
 
-/// Whether the words ask for the events of this device from this time on, with those of this log.
-fn ask_for_events(alloc: Global, words: &[&str], time: &[u8], name: &str, rows: &str) -> bool {
+/// Whether the words ask for the events of device 1001 from this time on, with those of `a.log`, of wide lines or not.
+fn ask_for_events(alloc: Global, words: &[&str], time: &[u8], is_wide: bool) -> bool {
     match read_words(alloc, words) {
-        Ok(Asked::Events { from, device, log }) => {
-            Some(from) == read_moment(time) && device == name && log == Some(rows)
+        Ok(Asked::Events(asked)) => {
+            Some(asked.from) == read_moment(time)
+                && asked.device == "1001"
+                && asked.log == Some("a.log")
+                && asked.is_wide == is_wide
         }
         _ => false,
     }
@@ -125,7 +128,17 @@ fn events_words(rt: HostRuntime) {
         "2026-11-22T07:00:00",
     ];
     let time = b"2026-11-22 07:00:00".as_slice();
-    assert!(rt; ask_for_events(rt.alloc(), &words, time, "1001", "a.log"));
+    assert!(rt; ask_for_events(rt.alloc(), &words, time, false));
+    let from = "--from=2026-11-22T07:00:00";
+    let wide = [
+        "tsb_field",
+        "events",
+        "--wide",
+        "--log=a.log",
+        "--device=1001",
+        from,
+    ];
+    assert!(rt; ask_for_events(rt.alloc(), &wide, time, true));
 }
 
 /// Whether the words ask for a record of this device from this time on, on this plan and log, in this manner.
@@ -342,10 +355,43 @@ fn worksheet_words(rt: HostRuntime) {
     assert!(rt; ask_for_worksheet(rt.alloc(), &hyphen, "-a.json"));
 }
 
+/// Whether the words ask for the card of this plan, beside no other.
+fn ask_for_card(alloc: Global, words: &[&str], file: &str) -> bool {
+    match read_words(alloc, words) {
+        Ok(
+            Asked::Card {
+                plan,
+                against: None,
+            },
+        ) => plan == file,
+        _ => false,
+    }
+}
+
+/// Whether the words ask for the card of this plan beside this one.
+fn ask_for_cards(alloc: Global, words: &[&str], file: &str, card: &str) -> bool {
+    match read_words(alloc, words) {
+        Ok(
+            Asked::Card {
+                plan,
+                against: Some(other),
+            },
+        ) => plan == file && other == card,
+        _ => false,
+    }
+}
+
+#[test]
+fn card_words(rt: HostRuntime) {
+    assert!(rt; ask_for_card(rt.alloc(), &["tsb_field", "card", "a.json"], "a.json"));
+    let beside = ["tsb_field", "card", "a.json", "--against", "a.txt"];
+    assert!(rt; ask_for_cards(rt.alloc(), &beside, "a.json", "a.txt"));
+}
+
 const FROM: &str = "--from=2026-11-22T07:00:00";
 
 /// Words that ask for nothing.
-const BAD: [&[&str]; 39] = [
+const BAD: [&[&str]; 43] = [
     &["tsb_field"],
     &["tsb_field", "help"],
     &["tsb_field", "log"],
@@ -355,12 +401,12 @@ const BAD: [&[&str]; 39] = [
     &["tsb_field", "log", FROM, "--log=a"],
     &["tsb_field", "log", FROM, "--device", "-7"],
     &["tsb_field", "log", FROM, "more"],
-    &["tsb_field", "log", FROM, "--vehicle=1=17"],
+    &["tsb_field", "log", FROM, "--vehicle=1=65"],
     &["tsb_field", "log", FROM, "--vehicle=1=0"],
     &["tsb_field", "log", FROM, "--vehicle=1"],
     &["tsb_field", "log", FROM, "--vehicle==1"],
-    &["tsb_field", "log", FROM, "--pedestrian=1=9"],
-    &["tsb_field", "log", FROM, "--preempt=1=5"],
+    &["tsb_field", "log", FROM, "--pedestrian=1=17"],
+    &["tsb_field", "log", FROM, "--preempt=1=9"],
     &["tsb_field", "log", FROM, "--vehicle=4294967296=1"],
     &["tsb_field", "record", FROM, "--device=1", "a.json"],
     &["tsb_field", "record", FROM, "a.json", "a.log"],
@@ -409,6 +455,10 @@ const BAD: [&[&str]; 39] = [
     &["tsb_field", "worksheet"],
     &["tsb_field", "worksheet", "a.json", "a.log"],
     &["tsb_field", "worksheet", "--week=2026-11-22", "a.json"],
+    &["tsb_field", "card"],
+    &["tsb_field", "card", "a.json", "b.json"],
+    &["tsb_field", "card", "--against=a", "--against=b", "a.json"],
+    &["tsb_field", "worksheet", "--against=a", "a.json"],
 ];
 
 /// Whether all these words are bad.

@@ -1,7 +1,7 @@
 -- Where overlap o lasts through no clearance, it shows the same with fewer commitments.
-use Rattle.std.proofs.Common.{◌≡◌, ℕ, zero, suc, ◌≤◌, ◌==◌, Bool, true, false, not, ◌&&◌, ◌||◌, if◌then◌else◌, List, [], ◌∷◌, Option, Some, None, is_some, refl, inl, inr, arith}
+use Rattle.std.proofs.Common.{◌≡◌, ℕ, zero, suc, ◌+◌, ◌<◌, ◌≤◌, Bool, true, false, not, ◌&&◌, ◌||◌, List, [], ◌∷◌, Option, Some, None, is_some, refl, sym, ap, ◌∙◌, inl, inr, arith}
 use Rattle.std.specs.List.{list_any}
-use Rattle.std.proofs.lemmas.Bool.{and_from, and_parts, or_cases, or_left, or_parts, or_right, true≢false, false≢true}
+use Rattle.std.proofs.lemmas.Bool.{and_from, and_parts, cases_eq, or_cases, or_left, or_parts, or_right, true≢false, false≢true}
 use Rattle.tsb_objects.specs.tsb_types.Intervals.{is_green, is_yellow, is_red_clear}
 use Rattle.tsb_objects.specs.tsb_types.Lists.{run_from}
 use Rattle.tsb_objects.specs.tsb_plan.Plan.{Plan, phases, ring_of}
@@ -17,6 +17,33 @@ any-none test f g [] none same = refl
 any-none test f g (p ∷ ps) none same =
     let parts = or_parts (test p) (list_any test ps) none in
     or-same _ _ _ _ (same p parts.0) (any-none test f g ps parts.1 same)
+
+-- where none of a run passes, each does not
+none-of : (a n : ℕ) (test : ℕ → Bool) → list_any test (run_from a n) ≡ false → (k : ℕ) → a ≤ k → k < a + n → test k ≡ false
+unfolding run_from
+none-of a zero test none k from below = absurd (omega (arith, from, below))
+none-of a (suc n) test none k from below =
+    let parts = or_parts (test a) (list_any test (run_from (a + 1) n)) none in
+    elim (cases_eq a k) [
+      | inl same ↦ ap test (sym same) ∙ parts.0
+      | inr other ↦ none-of (a + 1) n test parts.1 k (omega (arith, from, other)) (omega (arith, below))
+    ]
+
+-- one of a run passes
+pub any-at : (test : ℕ → Bool) (a n k : ℕ) → a ≤ k → k < a + n → test k ≡ true → list_any test (run_from a n) ≡ true
+unfolding run_from
+any-at test a zero k from below on = absurd (omega (arith, from, below))
+any-at test a (suc n) k from below on =
+    elim (cases_eq a k) [
+      | inl same ↦ or_left (test a) (list_any test (run_from (a + 1) n)) (ap test same ∙ on)
+      | inr other ↦ or_right (test a) (list_any test (run_from (a + 1) n)) (any-at test (a + 1) n k (omega (arith, from, other)) (omega (arith, below)) on)
+    ]
+
+pub any-never : (test : ℕ → Bool) (a n : ℕ) → ((k : ℕ) → a ≤ k → k < a + n → test k ≡ false) → list_any test (run_from a n) ≡ false
+unfolding run_from
+any-never test a zero never = refl
+any-never test a (suc n) never =
+    or-same _ _ _ _ (never a (omega arith) (omega arith)) (any-never test (a + 1) n (λ k from below. never k (omega (arith, from)) (omega (arith, below))))
 
 -- what is kept green, and what is on its last yellow
 kept-by : (included clearing green now was : Bool) → (now ≡ true → was ≡ true) → (included && (clearing && was)) ≡ false →
@@ -106,20 +133,7 @@ module _ (plan : Plan) (s : Shown) (commitment : ℕ → Option ℕ) (left : (n 
     pub head-left : overlap_head plan fewer o ≡ overlap_head plan s o
     head-left = rw (kept-left, yellow-left, green_modifier-left, yellow_modifier-left, last-left) refl
 
--- where no overlap lasts, none of the four does
-pub none-of-four : (plan : Plan) (s : Shown) (o : ℕ) → some_lasts plan s ≡ false → IsOverlap o → lasts plan s o ≡ false
-unfolding some_lasts run_from
-none-of-four plan s o none at =
-    let one = or_parts (lasts plan s 1) (lasts plan s 2 || (lasts plan s 3 || (lasts plan s 4 || false))) none in
-    let two = or_parts (lasts plan s 2) (lasts plan s 3 || (lasts plan s 4 || false)) one.1 in
-    let three = or_parts (lasts plan s 3) (lasts plan s 4 || false) two.1 in
-    let four = or_parts (lasts plan s 4) false three.1 in
-    go o at.0 at.1 one.0 two.0 three.0 four.0
-  where
-    go : (n : ℕ) → 1 ≤ n → n ≤ 4 → lasts plan s 1 ≡ false → lasts plan s 2 ≡ false → lasts plan s 3 ≡ false → lasts plan s 4 ≡ false → lasts plan s n ≡ false
-    go zero from to a b c d = absurd (omega arith)
-    go (suc zero) from to a b c d = a
-    go (suc (suc zero)) from to a b c d = b
-    go (suc (suc (suc zero))) from to a b c d = c
-    go (suc (suc (suc (suc zero)))) from to a b c d = d
-    go (suc (suc (suc (suc (suc n))))) from to a b c d = absurd (omega arith)
+-- where none lasts, no overlap of the plan does
+pub none-lasts : (plan : Plan) (s : Shown) (o : ℕ) → some_lasts plan s ≡ false → IsOverlap plan o → lasts plan s o ≡ false
+unfolding some_lasts
+none-lasts plan s o none at = none-of 1 plan.counts.overlaps (lasts plan s) none o at.0 (omega (arith, at.1))

@@ -1,7 +1,9 @@
 -- Displays and fields look at phases 1 to 16, overlaps and commitments alone, the monitor at the vehicle and pedestrian
 -- heads of phases 1 to 16; and heads that stay are let pass again.
 use Rattle.std.proofs.Common.{◌≡◌, ℕ, ◌+◌, ◌<◌, ◌≤◌, Bool, true, false, not, ◌&&◌, ◌||◌, if◌then◌else◌, Option, Some, None, is_some, refl, ap, ap₂, ◌∙◌, arith}
+use Rattle.std.specs.List.{list_any}
 use Rattle.std.specs.Option.{option_map, option_or}
+use Rattle.std.proofs.Math.Path.{fun_ext}
 use Rattle.tsb_objects.specs.tsb_types.declared.interval.Interval.{Interval}
 use Rattle.tsb_objects.specs.tsb_types.declared.lamp.Lamp.TheVariants as lamps
 use Rattle.tsb_objects.specs.tsb_types.declared.lamp.Aspect.{Aspect}
@@ -71,7 +73,7 @@ module _ (plan : Plan) (s t : Shown) (count : plan.phase_count ≤ 16) (alike : 
   -- so whether some overlap lasts through a clearance is seen of them alone
   pub some_lasts-same : some_lasts plan s ≡ some_lasts plan t
   unfolding some_lasts
-  some_lasts-same = any-agree 4 (lasts plan s) (lasts plan t) (omega arith) (λ o from to. lasts-same o)
+  some_lasts-same = ap (λ (test : ℕ → Bool). list_any test (run_from 1 plan.counts.overlaps)) (fun_ext lasts-same)
 
   overlap-same : (o : ℕ) → overlap_head plan s o ≡ overlap_head plan t o
   overlap-same o = rw (kept-same o, yellow-same o, green_modifier-same o, yellow_modifier-same o, last-same o) refl

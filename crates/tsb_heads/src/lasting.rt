@@ -19,8 +19,8 @@ pub fn some_overlap_lasts(
     ensures { TellsLasting intervals.now ring_1 ring_2 (checked_plan plan.now) result }
 {
     let served = find_served(intervals, ring_1, ring_2, plan);
-    for before in 0..OVERLAPS {
-        if lasts(plan, Overlap::of(before + 1), &served) {
+    for number in 1..OVERLAPS + 1 {
+        if lasts(plan, Overlap::of(number), &served) {
             return true;
         }
     }

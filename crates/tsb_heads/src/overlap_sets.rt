@@ -10,7 +10,6 @@ ghost use Rattle.tsb_heads.specs.Served.{IsServed};
 ghost use Rattle.tsb_heads.specs.OverlapSets.{HasNone, IsInOne, IsSameAt, aspect_of_overlap};
 
 use crate::overlaps::{ServedPhases, overlap_head};
-use tsb_objects::limits::OVERLAPS;
 use tsb_objects::{Aspect, Checked, NumberSet, Overlap, OverlapLights};
 
 /// The sets of overlaps whose heads show each colour.
@@ -79,20 +78,19 @@ fn light_of(lights: &OverlapLights, o: Overlap) -> Aspect
     }
 }
 
-/// What the heads of overlaps show: those that have intervals of their own by these, and the others by the phases.
+/// What the heads of overlaps show: those that have intervals of their own by these, and the others by the phases. Only
+/// those that include a phase are looked at: the others are dark.
 #[inline(always)]
-pub(crate) fn overlaps_of(
-    plan: &Checked,
-    served: &ServedPhases,
-    lights: &OverlapLights,
-) -> Overlaps
+pub(crate) fn overlaps_of(plan: &Checked, served: &ServedPhases, lights: &OverlapLights) -> Overlaps
     ensures heads { (s : Shown) → IsServed (checked_plan plan.now) s served.now → (o : ℕ) → 1 ≤ o → o ≤ OVERLAPS →
         aspect_of_overlap result o ≡ overlap_head (checked_plan plan.now) s o }
     ensures apart { (n : ℕ) → IsInOne result n }
     ensures few { (o : ℕ) → OVERLAPS < o → HasNone result o }
 {
     let mut heads = no_overlaps();
-    for number in 1..OVERLAPS + 1 {
+    let mut rest = plan.used_overlaps();
+    while let Some(number) = rest.first() {
+        rest = rest.with(number, false);
         let o = Overlap::of(number);
         let aspect = if plan.timed_overlaps().contains(number) {
             light_of(lights, o)

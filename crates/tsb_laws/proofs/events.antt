@@ -1,5 +1,6 @@
 pub mod KeptLemmas
 pub mod LineLemmas
+pub mod ServedLemmas
 pub mod SeenLemmas
 pub mod RunLemmas
 pub mod SayLemmas

@@ -21,4 +21,5 @@ pub mod PutLemmas
 pub mod TextLemmas
 pub mod OptionLemmas
 pub mod LaterLemmas
+pub mod SizeLemmas
 pub mod Examples

@@ -4,7 +4,7 @@ use Rattle.std.specs.Prelude.{ℕ, List, [], ◌∷◌, map}
 use Rattle.tsb_step.specs.tsb_plan.declared.object.Object.{Object}
 use Rattle.tsb_step.specs.tsb_plan.declared.object.Object.TheVariants.{OverlapIncludedPhases, PatternCycleTime, PatternOffsetTime, PatternSplitNumber, PatternSequenceNumber, SequenceData, PreemptMinimumDuration, PreemptMinimumGreen, PreemptMinimumWalk, PreemptEnterPedClear, PreemptDwellPhase, UnitRedRevert}
 use Rattle.tsb_step.specs.tsb_plan.declared.version.Version.TheVariants.{One}
-use Rattle.tsb_step.specs.tsb_plan.Plan.{Plan, with_values}
+use Rattle.tsb_step.specs.tsb_plan.Plan.{Plan, narrow_counts, with_values}
 use Rattle.tsb_step.specs.tsb_plan.Quad.{with_rows, quad_rows}
 use Rattle.tsb_step.specs.tsb_plan.Two.{two_values}
 use Rattle.tsb_step.specs.tsb_plan.Versions.{translated}
@@ -12,7 +12,7 @@ use Rattle.tsb_laws.specs.Widened.{IsOfTable}
 
 -- no object is given
 abbrev pub narrow_empty : Plan
-narrow_empty = record { phase_count = 8; side_count = 2; value = λ o i. 0 }
+narrow_empty = record { phase_count = 8; side_count = 2; counts = narrow_counts; value = λ o i. 0 }
 
 -- each is an object, an index and a value of version 1
 abbrev pub AreValues : List (Object × ℕ × ℕ) → Type 0

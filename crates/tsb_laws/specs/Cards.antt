@@ -5,11 +5,11 @@ use Rattle.tsb_step.specs.tsb_heads.Monitoring.{lets_walk}
 use Rattle.tsb_step.specs.State.{State}
 use Rattle.tsb_step.specs.Signs.{display}
 use Rattle.tsb_step.specs.Laws.{OfEveryRun}
-use Rattle.tsb_card.specs.Pairs.{Channel, channel, is_pair}
+use Rattle.tsb_card.specs.Pairs.{Control, channel, is_pair}
 use Rattle.tsb_laws.specs.Arrows.{is_lit}
 
 -- what a channel shows is lit: green, yellow or flashing yellow, walk or clearance
-abbrev pub is_channel_lit : State → Channel → Bool
+abbrev pub is_channel_lit : State → Control → Bool
 is_channel_lit s x =
     if x.kind == 2 then is_lit ((display s).vehicle x.source) else
     (if x.kind == 3 then lets_walk ((display s).pedestrian x.source) else

@@ -8,6 +8,7 @@ use Rattle.tsb_step.specs.State.{State}
 pub record DifferIn (test : Object → Bool) (x y : Plan) : Type 0 where
   pub phase_count : y.phase_count ≡ x.phase_count
   pub side_count : y.side_count ≡ x.side_count
+  pub counts : y.counts ≡ x.counts
   pub value : (o : Object) (i : ℕ) → test o ≡ false → y.value o i ≡ x.value o i
 
 -- so do the plans of two states that have all else in common

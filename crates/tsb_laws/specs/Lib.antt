@@ -60,6 +60,8 @@ pub mod Desk
 pub mod Widened
 -- the built-in plans as version 1 has them
 pub mod BuiltIn
+-- that a bench with fewer detectors, overlaps and preempts does the same
+pub mod Sizes
 -- that both benches show and refuse the same
 pub mod Versions
 -- plan texts of version 1, and the plans that they name and give

@@ -1,6 +1,5 @@
--- Plan texts of versions 1 and 2. Of version 1: the plan of 8 phases and 2 sides that a text names, and what holds of
--- it and of the plan that is read. Of version 2: what is read where the number of version 3 takes its place. All of it
--- as statements; tsb_plan_text has how a text is read, or refused.
+-- Plan texts of versions 1 and 2, as statements. A text of version 1 names a plan of 8 phases and 2 sides: what holds
+-- of it and of the plan that is read. A text of version 2: what is read where the number of version 3 takes its place; tsb_plan_text has how a text is read, or refused.
 --
 -- All are proved, as the contract of a function that does nothing (src/versions.rt).
 use Rattle.std.specs.Prelude.{◌≡◌, ◌↔◌, ℕ, ◌≤◌, false, List, length, map, if◌then◌else◌, Some, None, Ok, codes}
@@ -10,7 +9,7 @@ use Rattle.tsb_step.specs.tsb_types.Lists.{or_number}
 use Rattle.tsb_step.specs.tsb_plan.declared.object.Object.{Object}
 use Rattle.tsb_step.specs.tsb_plan.declared.version.Version.{Version}
 use Rattle.tsb_step.specs.tsb_plan.declared.version.Version.TheVariants.{One, Two, Three}
-use Rattle.tsb_step.specs.tsb_plan.Plan.{Plan}
+use Rattle.tsb_step.specs.tsb_plan.Plan.{Plan, narrow_counts}
 use Rattle.tsb_step.specs.tsb_plan.Versions.{has_object, has_index_in}
 use Rattle.tsb_plan_text.specs.PlanText.{limit, data_of, version_in, reading}
 use Rattle.tsb_plan_text.specs.PlanTextSays.{number_for}
@@ -18,6 +17,7 @@ use Rattle.tsb_step.specs.tsb_rules.Rules.{first_broken}
 use Rattle.tsb_step.specs.declared.inputs.Input.{Input}
 use Rattle.tsb_step.specs.Runs.{replay, AreTaken}
 use Rattle.tsb_step.specs.Signs.{display}
+use Rattle.tsb_laws.specs.Sizes.{IsOfFewer, AreInputsOf, full_state}
 use Rattle.tsb_laws.specs.Widened.{IsNarrow, widened_input, AreWithin, widened_state}
 use Rattle.tsb_laws.specs.Options.{HasNoOptions, OptionsOff}
 use Rattle.tsb_laws.specs.Versions.{SaysTheSame}
@@ -35,6 +35,7 @@ abbrev pub named_plan : Members → Plan
 named_plan members = record {
   phase_count = 8;
   side_count = 2;
+  counts = narrow_counts;
   value = λ o i. if has_index_in One o i then or_number (number_for members o i) 0 else 0;
 }
 
@@ -54,13 +55,13 @@ TextsGiveWidePlans = OfReadTexts (λ members plan. SaysTheSame (named_plan membe
 abbrev pub NamedPlansBreakNoRule : Type 0
 NamedPlansBreakNoRule = OfReadTexts (λ members plan. first_broken (named_plan members) ≡ None)
 
--- what a bench of 16 phases and 4 sides does with the plan that is read, beside what one of 8 and 2 does with the plan
--- that is named: both take the same inputs, show the same heads, and are in the same state, with the translated plan
--- and edits
+-- what a bench of 16 phases and 4 sides, with all detectors, overlaps and preempts, does with the plan that is read,
+-- beside what one of 8 and 2, with those of version 1, does with the plan that is named: both take the same inputs, show
+-- the same heads, and are in the same state, with the translated plan and edits
 pub record GoesAlike (named read : Plan) (is : List Input) : Type 0 where
   pub taken : AreTaken named is ↔ AreTaken read (map widened_input is)
   pub heads : display (replay read (map widened_input is)) ≡ display (replay named is)
-  pub states : replay read (map widened_input is) ≡ widened_state (replay named is)
+  pub states : replay read (map widened_input is) ≡ full_state (widened_state (replay named is))
 
 -- So it is after any inputs within version 1's ranges.
 abbrev pub ReadBenchesGoAlike : Type 0
@@ -90,3 +91,20 @@ RenumberedTextsGiveTheSame = (text other : List ℕ) (members : Members) (plan :
 abbrev pub TextsGiveNoLaterObject : Type 0
 TextsGiveNoLaterObject = (v : Version) (text : List ℕ) (members : Members) (plan : Plan) → IsOfVersion v text members → reading text ≡ Ok plan →
     (o : Object) (i : ℕ) → has_object v o ≡ false → plan.value o i ≡ 0
+
+-- the same plan, of as many detectors, overlaps and preempts as version 2 has
+abbrev pub in_version_2 : Plan → Plan
+in_version_2 plan = record plan { counts = narrow_counts }
+
+-- what a bench of all detectors, overlaps and preempts does with a plan, beside what one of those of version 2 does:
+-- both take the same inputs, show the same heads, and are in the same state
+pub record GoesAsInVersion2 (plan : Plan) (is : List Input) : Type 0 where
+  pub taken : AreTaken (in_version_2 plan) is ↔ AreTaken plan is
+  pub heads : display (replay plan is) ≡ display (replay (in_version_2 plan) is)
+  pub states : replay plan is ≡ full_state (replay (in_version_2 plan) is)
+
+-- A text of version 2 gives nothing where version 2 has no place. So its plan goes as in version 2 after any inputs but
+-- values that a station sets where version 2 has no place.
+abbrev pub BenchesGoAsInVersion2 : Type 0
+BenchesGoAsInVersion2 = (text : List ℕ) (members : Members) (plan : Plan) → IsOfVersion Two text members → reading text ≡ Ok plan →
+    IsOfFewer (in_version_2 plan) × ((is : List Input) → AreInputsOf (in_version_2 plan) is → GoesAsInVersion2 plan is)

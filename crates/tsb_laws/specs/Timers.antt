@@ -1,9 +1,10 @@
 -- The timers that have a cell, which cell that is among all of the controller, and what a tick makes of a timer that
 -- stays Off or runs on.
-use Rattle.std.specs.Prelude.{ℕ, ◌+◌, ◌≤◌, Option, Some, None, List, Contains, is_some, if◌then◌else◌}
+use Rattle.std.specs.Prelude.{ℕ, ◌+◌, ◌*◌, ◌≤◌, Option, Some, None, List, Contains, is_some, if◌then◌else◌}
 use Rattle.tsb_step.specs.tsb_cells.declared.timer.Timer.{Timer}
 use Rattle.tsb_step.specs.tsb_cells.declared.timer.Timer.TheVariants.{Off}
 use Rattle.tsb_step.specs.tsb_cells.Timer.{advanced}
+use Rattle.tsb_step.specs.tsb_types.declared.limits.TheConstants.{PREEMPTS, VEHICLE_DETECTORS}
 use Rattle.tsb_step.specs.tsb_preempt.Service.{Service}
 use Rattle.tsb_step.specs.declared.first_cell.TheConstants as first_cell
 use Rattle.tsb_step.specs.State.{State}
@@ -25,13 +26,13 @@ pub data Place : Type 0 where
   Served : Place
   Track : Place
 
--- there are 16 detectors, 16 phases and 4 preempts
+-- its number is one of those that there are
 abbrev pub IsPlace : Place → Type 0
-IsPlace (Delay n) = (1 ≤ n) × (n ≤ 4)
+IsPlace (Delay n) = (1 ≤ n) × (n ≤ PREEMPTS)
 IsPlace Served = Unit {0}
 IsPlace Track = Unit {0}
-IsPlace (Change d) = (1 ≤ d) × (d ≤ 16)
-IsPlace (Extend d) = (1 ≤ d) × (d ≤ 16)
+IsPlace (Change d) = (1 ≤ d) × (d ≤ VEHICLE_DETECTORS)
+IsPlace (Extend d) = (1 ≤ d) × (d ≤ VEHICLE_DETECTORS)
 IsPlace (Interval p) = (1 ≤ p) × (p ≤ 16)
 IsPlace (Pedestrian p) = (1 ≤ p) × (p ≤ 16)
 IsPlace (Passage p) = (1 ≤ p) × (p ≤ 16)
@@ -65,8 +66,8 @@ timer_of Track s = tracked s.preempts.service
 
 -- the number of its cell among all of the controller
 abbrev pub cell_of : Place → ℕ
-cell_of (Change d) = first_cell.DETECTORS + (21 + d)
-cell_of (Extend d) = first_cell.DETECTORS + (37 + d)
+cell_of (Change d) = first_cell.DETECTORS + (11 + VEHICLE_DETECTORS + d)
+cell_of (Extend d) = first_cell.DETECTORS + (11 + 2 * VEHICLE_DETECTORS + d)
 cell_of (Interval p) = first_cell.PHASES + (3 + p)
 cell_of (Pedestrian p) = first_cell.PHASES + (19 + p)
 cell_of (Passage p) = first_cell.PHASES + (35 + p)
@@ -74,8 +75,8 @@ cell_of (Conflict p) = first_cell.PHASES + (51 + p)
 cell_of (Reduction p) = first_cell.PHASES + (67 + p)
 cell_of (RedRevert p) = first_cell.PHASES + (83 + p)
 cell_of (Delay n) = first_cell.PREEMPTS + (1 + n)
-cell_of Served = first_cell.PREEMPTS + 8
-cell_of Track = first_cell.PREEMPTS + 9
+cell_of Served = first_cell.PREEMPTS + (4 + PREEMPTS)
+cell_of Track = first_cell.PREEMPTS + (5 + PREEMPTS)
 
 -- a timer after a tick in which it stayed Off or ran on; in a controller that has tripped timers rest
 abbrev pub waits : State → Timer → Timer

@@ -1,9 +1,10 @@
 -- What the events of a run say. Those of display lines are among them, as are those of inputs, and they give the heads
 -- at its end. Each law here is the contract of a function in src/events.rt.
-use Rattle.std.specs.Prelude.{◌≡◌, ℕ, ◌≤◌, ◌==◌, Bool, true, false, List, [], ◌∷◌, ◌++◌, filter, Option, Some, None, is_some, if◌then◌else◌}
+use Rattle.std.specs.Prelude.{◌≡◌, ℕ, ◌≤◌, ◌==◌, nat_le, Bool, true, false, not, ◌&&◌, ◌||◌, List, [], ◌∷◌, ◌++◌, filter, Option, Some, None, is_some, if◌then◌else◌}
 use Rattle.tsb_step.specs.tsb_types.Lists.{among}
 use Rattle.tsb_step.specs.tsb_types.Sets.{has_number, is_same_row}
 use Rattle.tsb_step.specs.tsb_types.declared.event.Event.{Event}
+use Rattle.tsb_step.specs.tsb_types.declared.limits.TheConstants.{VEHICLE_DETECTORS, OVERLAPS}
 use Rattle.tsb_step.specs.tsb_types.declared.row.Row.{Row}
 use Rattle.tsb_step.specs.tsb_heads.Colours as colours
 use Rattle.tsb_step.specs.tsb_heads.Monitoring as monitor
@@ -17,7 +18,7 @@ use Rattle.tsb_step.specs.Laws.{IsConsistent}
 use Rattle.tsb_step.specs.Runs.{replay, AreTaken}
 use Rattle.tsb_step.specs.Signs.{display}
 use Rattle.tsb_step.specs.State.{State}
-use Rattle.tsb_text.specs.Answers.{display_line}
+use Rattle.tsb_text.specs.Answers.{line_in}
 use Rattle.tsb_text.specs.kept.Kept.{last_row}
 use Rattle.tsb_text.specs.recording.Along.{told_along}
 use Rattle.tsb_log_text.specs.declared.log.LogRow.{LogRow}
@@ -31,29 +32,33 @@ use Rattle.tsb_field_display.specs.SessionLaws.{is_of_input}
 
 -- ## Display lines
 
--- what the display line of a state shows
-abbrev pub signals : State → Signals
-signals s = signals_of (display_line s)
+-- what the display line of a state shows, or the wide one
+abbrev pub signals : Bool → State → Signals
+signals is_wide s = signals_of is_wide (line_in is_wide s)
 
 -- with its tick
-abbrev pub shown_in : State → Shown
-shown_in s = record { tick = s.now; signals = signals s }
+abbrev pub shown_in : Bool → State → Shown
+shown_in is_wide s = record { tick = s.now; signals = signals is_wide s }
 
--- the display line of each state of a run is read as this
+-- the line of each state of a run is read as this
 abbrev pub LinesAreReadInRuns : Type 0
-LinesAreReadInRuns = (plan : Plan) (is : List Input) → IsConsistent plan → AreTaken plan is →
-    shown_of (display_line (replay plan is)) ≡ Some (shown_in (replay plan is))
+LinesAreReadInRuns = (is_wide : Bool) (plan : Plan) (is : List Input) → IsConsistent plan → AreTaken plan is →
+    shown_of is_wide (line_in is_wide (replay plan is)) ≡ Some (shown_in is_wide (replay plan is))
 
--- display lines have events of this code
-abbrev pub is_of_line : Event → Bool
-is_of_line e = among e.code (1 ∷ 7 ∷ 8 ∷ 9 ∷ 21 ∷ 22 ∷ 23 ∷ 61 ∷ 63 ∷ 64 ∷ 105 ∷ 173 ∷ [])
+-- the line shows what the event is about: overlaps 1 to 4, and a wide line all
+abbrev pub is_on_line : Bool → Event → Bool
+is_on_line is_wide e = is_wide || (not (among e.code (61 ∷ 63 ∷ 64 ∷ [])) || nat_le e.parameter 4)
 
--- the events that come of the display lines before and after an input are those of the same codes among its events
+-- lines have events of this code, and it is of what the line shows
+abbrev pub is_of_line : Bool → Event → Bool
+is_of_line is_wide e = among e.code (1 ∷ 7 ∷ 8 ∷ 9 ∷ 21 ∷ 22 ∷ 23 ∷ 61 ∷ 63 ∷ 64 ∷ 105 ∷ 173 ∷ []) && is_on_line is_wide e
+
+-- the events that come of the lines before and after an input are those of lines among its events
 abbrev pub LinesTellTheSame : Type 0
-LinesTellTheSame = (plan : Plan) (is : List Input) (i : Input) (noted : Noted) → IsConsistent plan → plan.phase_count ≤ 16 →
+LinesTellTheSame = (is_wide : Bool) (plan : Plan) (is : List Input) (i : Input) (noted : Noted) → IsConsistent plan → plan.phase_count ≤ 16 →
     AreTaken plan (i ∷ is) →
-    display_lines.events_of (signals (replay plan is)) (shown_in (replay plan (i ∷ is)))
-    ≡ filter is_of_line (events_of noted (replay plan is) i)
+    display_lines.events_of (signals is_wide (replay plan is)) (shown_in is_wide (replay plan (i ∷ is)))
+    ≡ filter (is_of_line is_wide) (events_of noted (replay plan is) i)
 
 -- ## Heads
 
@@ -64,8 +69,8 @@ pub record TellsHeads (lit : Lit) (s : State) : Type 0 where
   pub yellow : (p : ℕ) → 1 ≤ p → p ≤ 16 → lit.yellow p ≡ colours.is_yellow ((display s).vehicle p)
   pub walk : (p : ℕ) → 1 ≤ p → p ≤ 16 → lit.walk p ≡ colours.shows_walk ((display s).pedestrian p)
   pub clearance : (p : ℕ) → 1 ≤ p → p ≤ 16 → lit.clearance p ≡ colours.shows_clearance ((display s).pedestrian p)
-  pub overlap_green : (o : ℕ) → 1 ≤ o → o ≤ 4 → lit.overlap_green o ≡ monitor.is_green ((display s).overlap o)
-  pub overlap_yellow : (o : ℕ) → 1 ≤ o → o ≤ 4 → lit.overlap_yellow o ≡ colours.is_yellow ((display s).overlap o)
+  pub overlap_green : (o : ℕ) → 1 ≤ o → o ≤ OVERLAPS → lit.overlap_green o ≡ monitor.is_green ((display s).overlap o)
+  pub overlap_yellow : (o : ℕ) → 1 ≤ o → o ≤ OVERLAPS → lit.overlap_yellow o ≡ colours.is_yellow ((display s).overlap o)
   pub flash : lit.flash ≡ is_some s.trip
 
 -- the events of a run say what the heads show at its end, whatever the form of the log is
@@ -101,7 +106,7 @@ says_preempt code = if code == 102 then Some true else (if code == 104 then Some
 -- is on: in a log of this form, with the inputs of this row at a state. Before them all are off. A vehicle detector is
 -- on by its input, or by its output; a preempt by its input or its switch
 pub record TellsInputs (es : List Event) (form : LogForm) (row : Row) (s : State) : Type 0 where
-  pub vehicles : (d : ℕ) → 1 ≤ d → d ≤ 16 → lit_after (says_at says_vehicle d) false es ≡ vehicles_in form row (view s) d
+  pub vehicles : (d : ℕ) → 1 ≤ d → d ≤ VEHICLE_DETECTORS → lit_after (says_at says_vehicle d) false es ≡ vehicles_in form row (view s) d
   pub pedestrians : (d : ℕ) → 1 ≤ d → d ≤ 16 → lit_after (says_at says_pedestrian d) false es ≡ has_number row.pedestrians d
   pub preempts : (n : ℕ) → 1 ≤ n → n ≤ 16 → lit_after (says_at says_preempt n) false es ≡ requests row (view s) n
 

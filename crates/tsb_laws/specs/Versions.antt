@@ -1,11 +1,12 @@
--- What holds of the bench of 8 phases and 2 sides and of that of 16 and 4, as statements: with one plan of version 1,
--- and whatever inputs within version 1's ranges, both show the same.
+-- What holds of two benches, as statements: with one plan of version 1, and whatever inputs within version 1's ranges,
+-- both show the same. One has 8 phases, 2 sides, 16 vehicle detectors, 8 pedestrian detectors, 4 overlaps and 4
+-- preempts, the other 16 and 4 with all of these.
 --
 -- All are proved, each as the contract of a function that does nothing (src/versions.rt).
 use Rattle.std.specs.Prelude.{◌≡◌, ◌≢◌, ◌↔◌, ℕ, ◌<◌, true, false, List, map}
 use Rattle.tsb_step.specs.tsb_plan.declared.object.Object.{Object}
 use Rattle.tsb_step.specs.tsb_plan.declared.version.Version.TheVariants.{One}
-use Rattle.tsb_step.specs.tsb_plan.Plan.{Plan, empty, with_values, is_enabled}
+use Rattle.tsb_step.specs.tsb_plan.Plan.{Plan, all_counts, empty, with_values, is_enabled}
 use Rattle.tsb_step.specs.tsb_plan.Quad.{quad}
 use Rattle.tsb_step.specs.tsb_plan.Two.{two}
 use Rattle.tsb_step.specs.tsb_plan.Versions.{has_index_in, translated}
@@ -15,22 +16,24 @@ use Rattle.tsb_step.specs.declared.inputs.Input.{Input}
 use Rattle.tsb_step.specs.Runs.{replay, AreTaken}
 use Rattle.tsb_step.specs.Signs.{display, field, local, stage}
 use Rattle.tsb_step.specs.Step.{verdict}
+use Rattle.tsb_laws.specs.Sizes.{full, full_state}
 use Rattle.tsb_laws.specs.Widened.{IsNarrow, widened, widened_input, IsWithin, AreWithin, widened_state}
 use Rattle.tsb_laws.specs.BuiltIn.{narrow_empty, AreValues, widened_puts, narrow_two, narrow_quad}
 
 -- ## The wide plan
 
--- a plan of 16 phases and 4 sides that says at each translated index what a plan of version 1 says, and nothing
--- elsewhere
+-- a plan with as many of each thing as a plan in memory that says at each translated index what a plan of version 1
+-- says, and nothing elsewhere
 pub record SaysTheSame (narrow wide : Plan) : Type 0 where
   pub phase_count : wide.phase_count ≡ 16
   pub side_count : wide.side_count ≡ 4
+  pub counts : wide.counts ≡ all_counts
   pub there : (o : Object) (i : ℕ) → has_index_in One o i ≡ true → wide.value o (translated One o i) ≡ narrow.value o i
   pub elsewhere : (o : Object) (k : ℕ) → ((i : ℕ) → has_index_in One o i ≡ true → translated One o i ≢ k) → wide.value o k ≡ 0
 
 -- The wide plan is the one that says the same.
 abbrev pub WidePlansSayTheSame : Type 0
-WidePlansSayTheSame = (narrow wide : Plan) → IsNarrow narrow → SaysTheSame narrow wide ↔ (wide ≡ widened narrow)
+WidePlansSayTheSame = (narrow wide : Plan) → IsNarrow narrow → SaysTheSame narrow wide ↔ (wide ≡ full (widened narrow))
 
 -- It breaks the same rule first, or none as well.
 abbrev pub BreakTheSameRule : Type 0
@@ -44,12 +47,12 @@ PutsMakeNarrowPlans = (es : List (Object × ℕ × ℕ)) → AreValues es → Is
 -- so it makes no difference whether indices are translated as values are put, or the plan is widened then
 abbrev pub PutsMakeWidePlans : Type 0
 PutsMakeWidePlans = (es : List (Object × ℕ × ℕ)) → AreValues es →
-    with_values empty (widened_puts es) ≡ widened (with_values narrow_empty es)
+    with_values empty (widened_puts es) ≡ full (widened (with_values narrow_empty es))
 
 -- So the built-in plans are the wide plans of these, which are of version 1.
 pub record IsWideOf (narrow wide : Plan) : Type 0 where
   pub is_narrow : IsNarrow narrow
-  pub is_wide : wide ≡ widened narrow
+  pub is_wide : wide ≡ full (widened narrow)
 
 -- of the built-in plan of two phases
 abbrev pub TwoIsWide : Type 0
@@ -76,7 +79,7 @@ FieldsAgree = OfBothBenches (λ narrow is wide translations. field (replay wide 
 
 -- The whole states agree: plan and edits of the desk are translated, and all else is equal.
 abbrev pub StatesAgree : Type 0
-StatesAgree = OfBothBenches (λ narrow is wide translations. replay wide translations ≡ widened_state (replay narrow is))
+StatesAgree = OfBothBenches (λ narrow is wide translations. replay wide translations ≡ full_state (widened_state (replay narrow is)))
 
 -- Local counters and the stages of preempts are the same.
 abbrev pub CountersAgree : Type 0

@@ -1,5 +1,5 @@
--- The bench of 16 phases and 4 sides in place of one of 8 and 2: the plan that a plan text of version 1 becomes,
--- and inputs, edits and states with it. All of it is the profile's own.
+-- The bench of 16 phases and 4 sides in place of one of 8 and 2, with as many detectors, overlaps and preempts: the plan
+-- that a plan text of version 1 becomes among these, and inputs, edits and states with it. All of it is the profile's own.
 use Rattle.std.specs.Prelude.{◌≡◌, ℕ, ◌+◌, ◌-◌, ◌*◌, ◌/◌, ◌%◌, ◌≤◌, nat_le, nat_lt, Bool, true, false, ◌&&◌, if◌then◌else◌, List, [], ◌∷◌, map, Option, Some, None}
 use Rattle.tsb_step.specs.tsb_types.declared.lamp.Lamp.{Lamp}
 use Rattle.tsb_step.specs.tsb_types.declared.lamp.Lamp.TheVariants as lamps
@@ -7,7 +7,7 @@ use Rattle.tsb_step.specs.tsb_plan.declared.object.Object.{Object}
 use Rattle.tsb_step.specs.tsb_plan.declared.object.ObjectId.{ObjectId}
 use Rattle.tsb_step.specs.tsb_plan.declared.version.Version.TheVariants.{One}
 use Rattle.tsb_step.specs.tsb_plan.Versions.{is_in_rows, has_index_in, greatest_in, translated}
-use Rattle.tsb_step.specs.tsb_plan.Plan.{Plan}
+use Rattle.tsb_step.specs.tsb_plan.Plan.{Plan, narrow_counts}
 use Rattle.tsb_step.specs.tsb_transact.declared.edit.Edit.{Edit}
 use Rattle.tsb_step.specs.tsb_transact.Desk.{Desk}
 use Rattle.tsb_step.specs.declared.inputs.Input.{Input}
@@ -20,6 +20,7 @@ use Rattle.tsb_step.specs.State.{State}
 pub record IsNarrow (plan : Plan) : Type 0 where
   pub phase_count : plan.phase_count ≡ 8
   pub side_count : plan.side_count ≡ 2
+  pub counts : plan.counts ≡ narrow_counts
   pub placed : (o : Object) (i : ℕ) → has_index_in One o i ≡ false → plan.value o i ≡ 0
   pub bounded : (o : Object) (i : ℕ) → plan.value o i ≤ greatest_in One o
 
@@ -41,7 +42,7 @@ widened_value v o i = if is_in_rows o then widened_row (v o) i else v o i
 
 -- the plan of 16 phases and 4 sides
 abbrev pub widened : Plan → Plan
-widened plan = record { phase_count = 16; side_count = 4; value = widened_value plan.value }
+widened plan = record { phase_count = 16; side_count = 4; counts = plan.counts; value = widened_value plan.value }
 
 -- ## Inputs and edits
 

@@ -1,16 +1,16 @@
 //! What the events of a run show, each law the contract of a function that does nothing.
 ghost use Rattle.tsb_laws.specs.Told.{InputsMakeTheLog, LinesAreReadInRuns, LinesTellTheSame, RunsTellTheHeads, RunsTellTheInputs};
 
-/// `read`: The display line of each state of a run is read as what it shows. `shown_in` has its tick, and what the
-/// letters of its heads say.
+/// `read`: The display line of each state of a run, wide or not, is read as what it shows. `shown_in` has its tick, and
+/// what the letters of its heads say.
 ///
 /// Not said: the local counter of the line, as `tsb_field events` makes no event of it.
 /// Mistake: the tick of the line before (`reads_1`, `would_read_0`).
 /// Witness: `a_trip` of LineRuns.
 ///
 /// `same`: Display lines tell what the controller tells. The events that come of the lines before and after an input are
-/// those of the same codes among the events of this input, in the same order. So where each input has its line,
-/// `events` of tsb_field gives the same of these codes.
+/// those of the same codes among the events of this input, in the same order. Where lines are not wide, they are those
+/// of overlaps 1 to 4. So where each input has its line, `events` of tsb_field gives the same of these codes.
 ///
 /// Needs: at most 16 phases, as every plan in memory has. In flash some enabled phase flashes, as a rule of plans wants
 /// one (K1), and a display line shows no phase beyond 16 (`in_flash`, `out_of_sight`). Preempts need nothing: where one

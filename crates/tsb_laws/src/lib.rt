@@ -22,6 +22,7 @@ pub mod options;
 pub mod play;
 pub mod safety;
 pub mod schedules;
+pub mod sizes;
 pub mod starts;
 pub mod times_left;
 pub mod versions;

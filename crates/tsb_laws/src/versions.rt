@@ -1,7 +1,7 @@
 //! What holds of the bench of 8 phases and 2 sides and of that of 16 and 4, each law the contract of a function that does
 //! nothing.
 ghost use Rattle.tsb_laws.specs.Versions.{BreakTheSameRule, CountersAgree, FieldsAgree, HeadsAgree, OthersRest, PutsMakeNarrowPlans, PutsMakeWidePlans, QuadIsWide, RefusalsAgree, StagesAgree, StatesAgree, TakeTheSame, TwoIsWide, WidePlansSayTheSame};
-ghost use Rattle.tsb_laws.specs.Texts.{NamedPlansBreakNoRule, ReadBenchesGoAlike, RenumberedTextsGiveTheSame, TextsGiveNoLaterObject, TextsGiveWidePlans, TextsHaveNoOptions, TextsLeaveOptionsOff, TextsNameNarrowPlans};
+ghost use Rattle.tsb_laws.specs.Texts.{NamedPlansBreakNoRule, ReadBenchesGoAlike, RenumberedTextsGiveTheSame, TextsGiveNoLaterObject, TextsGiveWidePlans, TextsHaveNoOptions, TextsLeaveOptionsOff, TextsNameNarrowPlans, BenchesGoAsInVersion2};
 
 /// A plan of version 1 has its wide plan. There is one plan of 16 phases and 4 sides that says at translated indices
 /// what a plan of version 1 says, and nothing elsewhere. It breaks the same rule first, or none where that plan breaks
@@ -90,6 +90,8 @@ pub fn texts_of_version_1_have_no_options()
 
 /// A plan text of version 2 is one of version 3. With the number 3 in place of 2 it gives the same plan. And no text gives
 /// a value to an object that its version has not, so in the plan of a text of version 2 all that version 3 has more is 0.
+/// A bench of 16 vehicle detectors, 8 pedestrian detectors, 4 overlaps and 4 preempts, as version 2 has, does with that
+/// plan what one of all of them does.
 ///
 /// Needs: a text that is read, and one with its other members that is not too large (`IsOfVersion`, `renumbered`).
 /// Not said: which texts are read. That is the contract of `read_plan`.
@@ -99,4 +101,5 @@ pub fn texts_of_version_1_have_no_options()
 pub fn texts_of_version_2_are_of_version_3()
     ensures same { RenumberedTextsGiveTheSame }
     ensures none { TextsGiveNoLaterObject }
+    ensures sizes { BenchesGoAsInVersion2 }
 {}

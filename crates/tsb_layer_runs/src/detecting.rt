@@ -12,7 +12,7 @@ use std::alloc::Global;
 use tsb_cells::Reversible;
 use tsb_detect::laws::rows_stay_by;
 use tsb_detect::{Alarm, Detectors, Greens};
-use tsb_objects::{Checked, Detector, NumberSet, PhaseSet, Row};
+use tsb_objects::{Checked, Detector, DetectorSet, PhaseSet, Row};
 use tsb_types::limits;
 
 /// What a tick gives: the inputs, the phases that are Green, and the cells of their timers.
@@ -79,11 +79,11 @@ impl Ticked for Detecting {
 
     /// Outputs, actuations, and alarms of each kind.
     fn tells(&self, _given: &Given, _answer: &(), answers: &mut Numbers) -> Result<(), Fault> {
-        answers.tells(u32::from(self.layer.outputs().list()))?;
-        answers.tells(u32::from(self.layer.actuations().list()))?;
-        answers.tells(alarms(&self.layer, Alarm::NoActivity))?;
-        answers.tells(alarms(&self.layer, Alarm::MaxPresence))?;
-        answers.tells(alarms(&self.layer, Alarm::Erratic))
+        answers.tells_detectors(self.layer.outputs())?;
+        answers.tells_detectors(self.layer.actuations())?;
+        answers.tells_detectors(alarms(&self.layer, Alarm::NoActivity))?;
+        answers.tells_detectors(alarms(&self.layer, Alarm::MaxPresence))?;
+        answers.tells_detectors(alarms(&self.layer, Alarm::Erratic))
     }
 
     #[inline(always)]
@@ -100,14 +100,14 @@ impl Ticked for Detecting {
     }
 }
 
-/// The list of the detectors that have this alarm.
-fn alarms(detectors: &Detectors, alarm: Alarm) -> u32 {
-    let mut found = NumberSet::empty();
-    for number in 1..17u8 {
-        let has = detectors.alarm(Detector::of(number)) == Some(alarm);
-        found = found.with(number, has);
+/// The detectors that have this alarm.
+fn alarms(detectors: &Detectors, alarm: Alarm) -> DetectorSet {
+    let mut found = DetectorSet::empty();
+    for detector in &Detector::all() {
+        let has = detectors.alarm(*detector) == Some(alarm);
+        found = found.with(detector.number(), has);
     }
-    u32::from(found.list())
+    found
 }
 
 /// Detectors as at power-up.

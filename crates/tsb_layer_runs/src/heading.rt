@@ -9,7 +9,8 @@ use crate::numbers::Numbers;
 use std::alloc::Global;
 use tsb_heads::{Display, Field, Monitor, Trip};
 use tsb_objects::{
-    Checked, Intervals, Lamp, Overlap, OverlapLights, PedestrianColor, Pedestrians, Phase, PhaseSet, SignalColor,
+    Checked, Intervals, Lamp, Overlap, OverlapLights, PedestrianColor, Pedestrians, Phase,
+    PhaseSet, SignalColor,
 };
 
 /// What the heads are given: intervals, pedestrian parts and both commitments.

@@ -2,7 +2,9 @@
 
 use crate::fault::Fault;
 use tsb_lines::{next_word, number};
-use tsb_objects::{Intervals, DetectorSet, NumberSet, Pattern, Pedestrians, Phase, PhaseSet, Preempt, Refusal};
+use tsb_objects::{
+    DetectorSet, Intervals, NumberSet, Pattern, Pedestrians, Phase, PhaseSet, Preempt, Refusal,
+};
 
 /// What is left of a line.
 #[derive(Clone, Copy)]
@@ -53,7 +55,7 @@ impl<'a> Numbers<'a> {
         Ok(PhaseSet::from_list(self.list()?))
     }
 
-    /// The next number, a list of vehicle detectors 1 to 16.
+    /// The next number, a list of vehicle detectors; stored runs have 1 to 16.
     pub fn detectors(&mut self) -> Result<DetectorSet, Fault> {
         Ok(DetectorSet::from_list(u64::from(self.list()?)))
     }
@@ -107,6 +109,15 @@ impl<'a> Numbers<'a> {
     /// Whether the next number is the list of these phases.
     pub fn tells_phases(&mut self, phases: PhaseSet) -> Result<(), Fault> {
         self.tells(u32::from(phases.list()))
+    }
+
+    /// Whether the next number is the list of these vehicle detectors.
+    pub fn tells_detectors(&mut self, detectors: DetectorSet) -> Result<(), Fault> {
+        if u64::from(self.number()?) == detectors.list() {
+            Ok(())
+        } else {
+            Err(Fault::Differs)
+        }
     }
 
     /// Whether the next number is this phase, or 0 for none.

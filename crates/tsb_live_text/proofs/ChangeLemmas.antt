@@ -1,5 +1,5 @@
 -- What is said of ticks of which only the changes are told.
-use Rattle.std.proofs.Common.{◌≡◌, ◌+◌, ℕ, List, [], ◌∷◌, ◌++◌, Bool, false, not, refl, sym, ap, ◌∙◌, append_assoc, Ok, Err, subst, zero, suc, OnOk, inl, inr, Some, None, nat_le, arith}
+use Rattle.std.proofs.Common.{◌≡◌, ◌+◌, ℕ, List, [], ◌∷◌, ◌++◌, Bool, true, false, not, ◌&&◌, ◌==◌, ◌≤◌, bytes_eq, drop, take, ◌-◌, length, length-append, refl, sym, ap, ◌∙◌, append_assoc, Ok, Err, subst, zero, suc, OnOk, inl, inr, Some, None, nat_le, arith}
 use Rattle.std.proofs.lemmas.Bool.{cases_Bool}
 use Rattle.std.proofs.lemmas.Bool.Decides.{nat_tests}
 use Rattle.std.specs.declared.option.Option.{Option}
@@ -15,6 +15,13 @@ use Rattle.tsb_step.specs.declared.inputs.Input.TheVariants.{Tick}
 use Rattle.tsb_step.specs.Events.{events_of, usual_after}
 use Rattle.tsb_step.specs.Play.{IsRight}
 use Rattle.tsb_step.specs.Runs.{replay}
+use Rattle.tsb_step.specs.Signs.{display, local}
+use Rattle.tsb_step.specs.State.{State}
+use Rattle.tsb_types.specs.Lists.{run_from}
+use Rattle.tsb_display_text.specs.Line.{wide_line_of, wide_overlap_field}
+use Rattle.tsb_display_text.proofs.LineLemmas.{line-length}
+use Rattle.std.proofs.lemmas.List.{length-drop, length-take-le}
+use Rattle.tsb_log_text.proofs.ListLemmas.{slice-behind}
 use Rattle.tsb_step.specs.Step.{verdict}
 use Rattle.tsb_step.proofs.RefusalLemmas.{refuses}
 use Rattle.tsb_types.specs.declared.refusal.Refusal.{Refusal}
@@ -24,13 +31,48 @@ use Rattle.tsb_dialog.proofs.SaidLemmas.{said-more, said-nothing}
 use Rattle.tsb_log_text.specs.Logs.{row_at}
 use Rattle.tsb_text.specs.declared.rows.Rows.TheVariants.{Held}
 use Rattle.tsb_text.specs.Rows.{rows_in}
-use Rattle.tsb_text.specs.Answers.{GoesUnless, Leads, Setup, display_line, follower, next_tick, refused_after, refused_line}
+use Rattle.tsb_text.specs.Answers.{GoesUnless, Leads, Setup, display_line, follower, line_in, next_tick, preempt_in_service, refused_after, refused_line}
 use Rattle.tsb_text.specs.Obeyed.{Done, OnCourse, Stands, Took, news_in, tells_in}
 use Rattle.tsb_text.specs.Obeys.{Besides, if_told, trail}
 use Rattle.tsb_text.proofs.CourseLemmas.{follows-state, told-alike}
 use Rattle.tsb_text.proofs.TextLemmas.{some-leads}
 use Rattle.tsb_live_text.specs.Changes.{Changes, Ends, Follows, TellsTick, line_after, owed, shows_same, tick_text}
 use Rattle.tsb_live_text.proofs.TickLemmas.{rejoin}
+
+-- ## Display lines
+
+-- a line is no shorter than 53 bytes
+pub line-long : (is_wide : Bool) (s : State) (line : List ℕ) → line ≡ line_in is_wide s → 53 ≤ length line
+unfolding wide_line_of run_from
+line-long false s line is =
+    let all : length (display_line s) ≡ 53 = line-length s.now (display s) (preempt_in_service s) (local s) in
+    omega (arith, ap length is, all)
+line-long true s line is =
+    let first : length (display_line s) ≡ 53 = line-length s.now (display s) (preempt_in_service s) (local s) in
+    let all : length (line_in true s) ≡ length (display_line s) + 17 = length-append (display_line s) (32 ∷ wide_overlap_field (display s).overlap) in
+    omega (arith, ap length is, first, all)
+
+-- two lines in two parts each are equal where their parts are
+equal-parts : (a b c d : List ℕ) → length a ≡ length c → bytes_eq (a ++ b) (c ++ d) ≡ (bytes_eq a c && bytes_eq b d)
+equal-parts [] b [] d same = refl
+equal-parts [] b (y ∷ c) d same = absurd (omega (arith, same))
+equal-parts (x ∷ a) b [] d same = absurd (omega (arith, same))
+equal-parts (x ∷ a) b (y ∷ c) d same =
+    let rest : bytes_eq (a ++ b) (c ++ d) ≡ (bytes_eq a c && bytes_eq b d) = equal-parts a b c d (omega (arith, same)) in
+    ap (λ (t : Bool). x == y && t) rest ∙ sym (and-assoc (x == y) (bytes_eq a c) (bytes_eq b d))
+  where
+    and-assoc : (p q r : Bool) → ((p && q) && r) ≡ (p && (q && r))
+    and-assoc true q r = refl
+    and-assoc false q r = refl
+
+-- the parts of two display lines that show heads and the preempt
+pub shows-parts : (line other : List ℕ) → 53 ≤ length line → 53 ≤ length other →
+    shows_same line other ≡ (bytes_eq (take 40 (drop 8 line)) (take 40 (drop 8 other)) && bytes_eq (take (length line - 53) (drop 53 line)) (take (length other - 53) (drop 53 other)))
+shows-parts line other long and_long =
+    let front : length (take 40 (drop 8 line)) ≡ 40 = length-take-le 40 (drop 8 line) (omega (arith, long, length-drop 8 line)) in
+    let and_front : length (take 40 (drop 8 other)) ≡ 40 = length-take-le 40 (drop 8 other) (omega (arith, and_long, length-drop 8 other)) in
+    equal-parts (take 40 (drop 8 line)) (drop 53 line) (take 40 (drop 8 other)) (drop 53 other) (front ∙ sym and_front)
+    ∙ (λ j. bytes_eq (take 40 (drop 8 line)) (take 40 (drop 8 other)) && bytes_eq (sym (slice-behind 53 line) j) (sym (slice-behind 53 other) j))
 
 -- ## There is an answer to each number of ticks
 
@@ -62,13 +104,13 @@ some-after given besides row line same k rest (Some e) left =
 
 -- one tick more, where there is an answer after it
 one-change : (given : Setup) (besides : Besides) (row : Row) (n : ℕ) (is : List Input) (before : List ℕ) (is_owed : Bool)
-    → ((left : List Input) → SomeChanges given besides row left (line_after given.plan (Tick row ∷ is)) (shows_same (line_after given.plan (Tick row ∷ is)) before) n)
+    → ((left : List Input) → SomeChanges given besides row left (line_after given.is_wide given.plan (Tick row ∷ is)) (shows_same (line_after given.is_wide given.plan (Tick row ∷ is)) before) n)
     → (found : Option Refusal) → verdict (replay given.plan is) (Tick row) ≡ found → SomeChanges given besides row is before is_owed (suc n)
 one-change given besides row n is before is_owed rest None e =
     let next : (stop : Option Refusal) × (left : List Input) × Leads given (Tick row ∷ is) (follower given is (Tick row)) stop left = some-leads given (Tick row ∷ is) (follower given is (Tick row)) in
-    let said : List ℕ = tick_text given.plan besides row is before (trail besides.tells given (Tick row ∷ is) (follower given is (Tick row)) next.0) in
-    let after : SomeAfter given besides row (line_after given.plan (Tick row ∷ is)) (shows_same (line_after given.plan (Tick row ∷ is)) before) n next.0 next.1 =
-    some-after given besides row (line_after given.plan (Tick row ∷ is)) (shows_same (line_after given.plan (Tick row ∷ is)) before) n rest next.0 next.1 in
+    let said : List ℕ = tick_text given.is_wide given.plan besides row is before (trail besides.tells given (Tick row ∷ is) (follower given is (Tick row)) next.0) in
+    let after : SomeAfter given besides row (line_after given.is_wide given.plan (Tick row ∷ is)) (shows_same (line_after given.is_wide given.plan (Tick row ∷ is)) before) n next.0 next.1 =
+    some-after given besides row (line_after given.is_wide given.plan (Tick row ∷ is)) (shows_same (line_after given.is_wide given.plan (Tick row ∷ is)) before) n rest next.0 next.1 in
     record {
       text = said ++ after.text;
       refusal = after.refusal;
@@ -85,7 +127,7 @@ one-change given besides row n is before is_owed rest (Some x) e = record {
 some-changes : (given : Setup) (besides : Besides) (row : Row) (n : ℕ) (is : List Input) (before : List ℕ) (is_owed : Bool) → SomeChanges given besides row is before is_owed n
 some-changes given besides row zero is before is_owed = record { text = owed is_owed before; refusal = None; left = is; so = (refl, refl, refl) }
 some-changes given besides row (suc n) is before is_owed =
-    one-change given besides row n is before is_owed (λ left. some-changes given besides row n left (line_after given.plan (Tick row ∷ is)) (shows_same (line_after given.plan (Tick row ∷ is)) before))
+    one-change given besides row n is before is_owed (λ left. some-changes given besides row n left (line_after given.is_wide given.plan (Tick row ∷ is)) (shows_same (line_after given.is_wide given.plan (Tick row ∷ is)) before))
     (verdict (replay given.plan is) (Tick row)) refl
 
 -- ## The row that is held
@@ -149,15 +191,15 @@ changes-started given log besides row is first line n k course a p tells all sta
 record Taken (given : Setup) (besides : Besides) (row : Row) (now : List Input) (before line : List ℕ) (same : Bool) (said : List ℕ) (stop : Option Refusal) (left : List Input) : Type 0 where
   right : IsRight given.plan now (Apply (Tick row)) IsTaken
   follows : Follows given besides row now before said stop left
-  is-line : line ≡ line_after given.plan (Tick row ∷ now)
-  is-same : same ≡ shows_same (line_after given.plan (Tick row ∷ now)) before
+  is-line : line ≡ line_after given.is_wide given.plan (Tick row ∷ now)
+  is-same : same ≡ shows_same (line_after given.is_wide given.plan (Tick row ∷ now)) before
 
 -- where the display line after it is said unless it shows the same as that before
 abbrev TellsOf : Setup → OnCourse → List Input → Row → List ℕ → Bool → List ℕ → Option Refusal → List Input → Type 0
 TellsOf given course now row line same = TellsTick given (tells_in course.mode) (Tick row ∷ now) course.next (news_in course) (owed (not same) line)
 
 taken : (given : Setup) (log : List LogRow) (besides : Besides) (row : Row) (course : OnCourse) (now : List Input) (before line : List ℕ) (same : Bool) (said : List ℕ) (stop : Option Refusal) (left : List Input)
-    → TookNext given log course row now → tells_in course.mode ≡ besides.tells → line ≡ display_line (state_of course.bench) → same ≡ shows_same line before → TellsOf given course now row line same said stop left
+    → TookNext given log course row now → tells_in course.mode ≡ besides.tells → line ≡ line_in course.is_wide (state_of course.bench) → same ≡ shows_same line before → TellsOf given course now row line same said stop left
     → Taken given besides row now before line same said stop left
 taken given log besides row course now before line same said stop left t mode tells alike told = record {
   right = t.took.0;
@@ -169,10 +211,11 @@ taken given log besides row course now before line same said stop left t mode te
   is-same = same-there;
 }
   where
-    line-there : line ≡ line_after given.plan (Tick row ∷ now)
-    line-there = tells ∙ ap display_line (follows-state given.plan (whole course.bench) (Tick row ∷ now) t.took.1.follows)
+    line-there : line ≡ line_after given.is_wide given.plan (Tick row ∷ now)
+    line-there = tells ∙ ap (λ (w : Bool). line_in w (state_of course.bench)) t.took.1.wide
+        ∙ ap (line_in given.is_wide) (follows-state given.plan (whole course.bench) (Tick row ∷ now) t.took.1.follows)
 
-    same-there : same ≡ shows_same (line_after given.plan (Tick row ∷ now)) before
+    same-there : same ≡ shows_same (line_after given.is_wide given.plan (Tick row ∷ now)) before
     same-there = alike ∙ ap (λ (l : List ℕ). shows_same l before) line-there
 
     news : news_in course ≡ if_told besides.tells (events_of (usual_after (last_row now)) (replay given.plan now) (Tick row))
@@ -188,8 +231,8 @@ goes-on given besides row is first n now before is_owed k next so-far line same 
     subst (λ (v : List ℕ). Changes given besides row is first false n v refusal last) (sym (append_assoc so-far said text))
     (on (said ++ text) refusal last (subst (λ (m : ℕ). Changes given besides row now before is_owed m (said ++ text) refusal last) (sym one) tick))
   where
-    there : After given besides row (line_after given.plan (Tick row ∷ now)) (shows_same (line_after given.plan (Tick row ∷ now)) before) next stop left text refusal last
-    there = subst (λ (l : List ℕ). After given besides row l (shows_same (line_after given.plan (Tick row ∷ now)) before) next stop left text refusal last) t.is-line
+    there : After given besides row (line_after given.is_wide given.plan (Tick row ∷ now)) (shows_same (line_after given.is_wide given.plan (Tick row ∷ now)) before) next stop left text refusal last
+    there = subst (λ (l : List ℕ). After given besides row l (shows_same (line_after given.is_wide given.plan (Tick row ∷ now)) before) next stop left text refusal last) t.is-line
         (subst (λ (x : Bool). After given besides row line x next stop left text refusal last) t.is-same after)
 
     tick : Changes given besides row now before is_owed (suc next) (said ++ text) refusal last
@@ -199,7 +242,7 @@ goes-on given besides row is first n now before is_owed k next so-far line same 
 pub changes-more : (given : Setup) (log : List LogRow) (besides : Besides) (row : Row) (is : List Input) (first : List ℕ) (n : ℕ) (old mid new : OnCourse) (before : List ℕ) (is_owed : Bool) (left k : ℕ) (line : List ℕ) (same : Bool) (stop : Option Refusal) (a b c : Option (List ℕ)) (p q r : List ℕ)
     → Changing given log besides row is first n old before is_owed left a b p q → left ≡ suc k → tells_in mid.mode ≡ besides.tells
     → ((inputs : List Input) → Stands given log old inputs → TookNext given log mid row inputs)
-    → line ≡ display_line (state_of mid.bench) → same ≡ shows_same line before
+    → line ≡ line_in mid.is_wide (state_of mid.bench) → same ≡ shows_same line before
     → stop ≡ None → ((inputs : List Input) → Stands given log mid (Tick row ∷ inputs) → Done (Ok stop) given log new (TellsOf given mid inputs row line same) b c q r)
     → Changing given log besides row is first n new line same k a c p r
 changes-more given log besides row is first n old mid new before is_owed left k line same stop a b c p q r s one mode took tells alike none told =
@@ -221,7 +264,7 @@ changes-more given log besides row is first n old mid new before is_owed left k 
 pub changes-fault : (given : Setup) (log : List LogRow) (besides : Besides) (row : Row) (is : List Input) (first : List ℕ) (n : ℕ) (old mid new : OnCourse) (before : List ℕ) (is_owed : Bool) (left k : ℕ) (line : List ℕ) (same : Bool) (a b c : Option (List ℕ)) (p q r : List ℕ) (e : WriteError)
     → Changing given log besides row is first n old before is_owed left a b p q → left ≡ suc k → tells_in mid.mode ≡ besides.tells
     → ((inputs : List Input) → Stands given log old inputs → TookNext given log mid row inputs)
-    → line ≡ display_line (state_of mid.bench) → same ≡ shows_same line before
+    → line ≡ line_in mid.is_wide (state_of mid.bench) → same ≡ shows_same line before
     → ((inputs : List Input) → Stands given log mid (Tick row ∷ inputs) → Done (Err e) given log new (TellsOf given mid inputs row line same) b c q r)
     → Done (Err e) given log new (Changes given besides row is first false n) a c p r
 changes-fault given log besides row is first n old mid new before is_owed left k line same a b c p q r e s one mode took tells alike told =
@@ -288,7 +331,7 @@ changes-stop result given log besides row is first n old new before is_owed left
 pub changes-stop-after : (result : Result (Option Refusal) WriteError) (given : Setup) (log : List LogRow) (besides : Besides) (row : Row) (is : List Input) (first : List ℕ) (n : ℕ) (old mid new : OnCourse) (before : List ℕ) (is_owed : Bool) (left k : ℕ) (line : List ℕ) (same : Bool) (stop : Option Refusal) (a b c d : Option (List ℕ)) (p q r t : List ℕ) (e : Refusal)
     → Changing given log besides row is first n old before is_owed left a b p q → left ≡ suc k → tells_in mid.mode ≡ besides.tells
     → ((inputs : List Input) → Stands given log old inputs → TookNext given log mid row inputs)
-    → line ≡ display_line (state_of mid.bench) → same ≡ shows_same line before
+    → line ≡ line_in mid.is_wide (state_of mid.bench) → same ≡ shows_same line before
     → stop ≡ Some e → ((inputs : List Input) → Stands given log mid (Tick row ∷ inputs) → Done (Ok stop) given log new (TellsOf given mid inputs row line same) b c q r)
     → OnOk result (result ≡ Ok (Some e)) → SaidUntilFault result c d r t (owed same line ++ (besides.echo ++ with_feed (refused_line e)))
     → Done result given log new (Changes given besides row is first false n) a d p t

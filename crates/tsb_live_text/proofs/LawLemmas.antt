@@ -27,7 +27,7 @@ use Rattle.tsb_command_text.specs.declared.live_command.LiveReading.TheVariants.
 use Rattle.tsb_command_text.specs.LiveReadings.{live_reading}
 use Rattle.tsb_log_text.specs.Logs.{row_at}
 use Rattle.tsb_text.specs.Answers as answers
-use Rattle.tsb_text.specs.Answers.{Answers, GoesUnless, Setup, Steps, Ticked, display_line, follower, follower_of, next_tick, refused_after}
+use Rattle.tsb_text.specs.Answers.{Answers, GoesUnless, Setup, Steps, Ticked, follower, follower_of, line_in, next_tick, refused_after}
 use Rattle.tsb_text.specs.declared.faults.LineFault.{LineFault}
 use Rattle.tsb_text.specs.declared.faults.OnFault.{OnFault}
 use Rattle.tsb_text.specs.declared.task.Task.{Task}
@@ -40,7 +40,7 @@ use Rattle.tsb_text.specs.Tasks.{task_of}
 use Rattle.tsb_text.proofs.ObeyLemmas.{plain-answers}
 use Rattle.tsb_live_text.specs.Changes.{Changes, Ends, line_after, shows_same}
 use Rattle.tsb_live_text.specs.Laws.{AreOf, AsksAsThere, RunsAsThere, TakesNoTick, stand}
-use Rattle.tsb_text.specs.Replies.{Replies, flow_after, says}
+use Rattle.tsb_text.specs.Replies.{Replies, Stand, flow_after, laid, says}
 use Rattle.tsb_command_text.specs.Readings.{reading}
 use Rattle.tsb_command_text.specs.declared.command.Reading.{Reading}
 use Rattle.tsb_command_text.specs.declared.command.Command.TheVariants.{Quit, Show}
@@ -52,7 +52,7 @@ use Rattle.tsb_dialog.specs.Heard.{asked}
 use Rattle.tsb_text.specs.declared.faults.OnFault.TheVariants.{GoOn}
 use Rattle.std.specs.Prelude.{codes}
 use Rattle.std.proofs.Common.{Some, None, length}
-use Rattle.tsb_live_text.specs.Live.{AsksLive, GoesTo, Leaves, Live, Obeys, Reads, Says, TellsTick, begun, besides, echo_of, present, setup, with_inputs, with_row, with_stop}
+use Rattle.tsb_live_text.specs.Live.{AsksLive, GoesTo, Leaves, Live, Obeys, Reads, Says, TellsTick, begun, besides, echo_of, present, setup, with_inputs, with_lines, with_row, with_stop}
 use Rattle.tsb_text.proofs.recording.CommandLemmas.{Leads, by-leads, one, onto, stay, then}
 
 -- ## What remains
@@ -80,7 +80,7 @@ by-changes : (given : Setup) (b : Besides) (row : Row) (n : ℕ) (is : List Inpu
     → Changes given b row is before is_owed n text refusal new → Leads given.plan is new
 by-changes given b row zero is before is_owed text refusal new c = stay given.plan is new c.2
 by-changes given b row (suc n) is before is_owed text refusal new (inl c) =
-    let line : List ℕ = line_after given.plan (TakesTick row ∷ is) in
+    let line : List ℕ = line_after given.is_wide given.plan (TakesTick row ∷ is) in
     let same : Bool = shows_same line before in
     onto given.plan is new (asks.Apply (TakesTick row)) Took c.0
     ((then) given.plan (TakesTick row ∷ is) c.4 new (by-leads given (TakesTick row ∷ is) (follower given is (TakesTick row)) c.3 c.4 c.5.leads)
@@ -114,8 +114,8 @@ by-tick s t line (Err why) text fault a = goes-to s t s a.2 (quiet s s refl refl
 
 by-asks : (s t : Live) (line : List ℕ) (c : LiveCommand) (text : List ℕ) (fault : Option LineFault) → AsksLive s line c text fault t → Goes s t
 by-asks s t line (live.Session c) text fault a = by-leaves s t _ text fault (λ text refusal left o. by-task (setup s) (besides s line) s.inputs (task_of c) text refusal left o) a
-by-asks s t line (live.Changes n) text fault a = by-leaves s t (Changes (setup s) (besides s line) s.row s.inputs (display_line (present s)) false n) text fault
-    (λ text refusal left o. by-changes (setup s) (besides s line) s.row n s.inputs (display_line (present s)) false text refusal left o) a
+by-asks s t line (live.Changes n) text fault a = by-leaves s t (Changes (setup s) (besides s line) s.row s.inputs (line_in s.is_wide (present s)) false n) text fault
+    (λ text refusal left o. by-changes (setup s) (besides s line) s.row n s.inputs (line_in s.is_wide (present s)) false text refusal left o) a
 by-asks s t line (live.GoTo aim) text fault a = by-goes s t line (tick_of (present s).start_moment (present s).now aim) text fault a
 by-asks s t line (live.TickAt aim) text fault a = by-tick s t line (tick_of (present s).start_moment (present s).now aim) text fault a
 by-asks s t line live.Status text fault a = goes-to s t s a.2 (quiet s s refl refl)
@@ -124,6 +124,7 @@ by-asks s t line live.Plan text fault (inr a) = goes-to s t s a.2 (quiet s s ref
 by-asks s t line live.Edits text fault a = goes-to s t s a.2 (quiet s s refl refl)
 by-asks s t line (live.Events on) text fault a = goes-to s t _ a.2 (quiet s _ refl refl)
 by-asks s t line (live.Echo on) text fault a = goes-to s t _ a.2 (quiet s _ refl refl)
+by-asks s t line (live.Lines is_wide) text fault a = goes-to s t _ a.2 (quiet s _ refl refl)
 by-asks s t line (live.When which) text fault a = goes-to s t s a.2 (quiet s s refl refl)
 by-asks s t line live.Save text fault a = goes-to s t s a.2 (quiet s s refl refl)
 by-asks s t line live.Help text fault a = goes-to s t s a.2 (quiet s s refl refl)
@@ -193,52 +194,51 @@ leads-as given other is (Some i) stop left plan (inl l) = inl (subst (λ (q : Pl
 leads-as given other is (Some i) stop left plan (inr l) =
     inr (record { why = l.why; right = subst (λ (q : Plan). IsRight q is (asks.Apply i) (Refused l.why)) (sym plan) l.right; refused = l.refused; left = l.left })
 
-ticked-as : (given other : Setup) (is : List Input) (text rest : List ℕ) (stop : Option Refusal) (left : List Input) → other.plan ≡ given.plan → other.acts ≡ given.acts → next_tick other is ≡ next_tick given is → Ticked given is text rest stop left
+ticked-as : (given other : Setup) (is : List Input) (text rest : List ℕ) (stop : Option Refusal) (left : List Input) → other.plan ≡ given.plan → other.acts ≡ given.acts → other.is_wide ≡ given.is_wide → next_tick other is ≡ next_tick given is → Ticked given is text rest stop left
     → Ticked other is text rest stop left
-ticked-as given other is text rest stop left p acts e t = record {
+ticked-as given other is text rest stop left p acts wide e t = record {
   right = subst (λ (x : Input). IsRight other.plan is (asks.Apply x) Took) (sym e) (subst (λ (q : Plan). IsRight q is (asks.Apply (next_tick given is)) Took) (sym p) t.right);
   leads = subst (λ (x : Input). answers.Leads other (x ∷ is) (follower other is x) stop left) (sym e)
       (subst (λ (next : Option Input). answers.Leads other (next_tick given is ∷ is) next stop left) (sym (follower-as given other is (next_tick given is) p acts))
       (leads-as given other (next_tick given is ∷ is) (follower given is (next_tick given is)) stop left p t.leads));
-  line = subst (λ (x : Input). text ≡ with_feed (display_line (replay other.plan (x ∷ is))) ++ (refused_after [] stop ++ rest)) (sym e)
-      (subst (λ (q : Plan). text ≡ with_feed (display_line (replay q (next_tick given is ∷ is))) ++ (refused_after [] stop ++ rest)) (sym p) t.line);
+  line = t.line ∙ (λ j. with_feed (line_in (sym wide j) (replay (sym p j) (sym e j ∷ is))) ++ (refused_after [] stop ++ rest));
 }
 
-one-step : (given other : Setup) (is : List Input) (text : List ℕ) (new : List Input) → other.plan ≡ given.plan → other.acts ≡ given.acts → next_tick other is ≡ next_tick given is → Steps given is 1 text new → Steps other is 1 text new
-one-step given other is text new p acts e (inl s) = inl (s.0, s.1, s.2, ticked-as given other is text s.0 s.1 s.2 p acts e s.3, s.4)
-one-step given other is text new p acts e (inr s) = inr (record {
+one-step : (given other : Setup) (is : List Input) (text : List ℕ) (new : List Input) → other.plan ≡ given.plan → other.acts ≡ given.acts → other.is_wide ≡ given.is_wide → next_tick other is ≡ next_tick given is → Steps given is 1 text new → Steps other is 1 text new
+one-step given other is text new p acts wide e (inl s) = inl (s.0, s.1, s.2, ticked-as given other is text s.0 s.1 s.2 p acts wide e s.3, s.4)
+one-step given other is text new p acts wide e (inr s) = inr (record {
   refusal = s.refusal;
   right = subst (λ (x : Input). IsRight other.plan is (asks.Apply x) (Refused s.refusal)) (sym e) (subst (λ (q : Plan). IsRight q is (asks.Apply (next_tick given is)) (Refused s.refusal)) (sym p) s.right);
   line = s.line;
   left = s.left;
 })
 
-pub rows-as : (given : Setup) (s t : Live) (line text : List ℕ) (row : Row) (fault : Option LineFault) → s.tells ≡ false → s.echoes ≡ false → given.plan ≡ s.plan → given.acts ≡ s.acts
+pub rows-as : (given : Setup) (s t : Live) (line text : List ℕ) (row : Row) (fault : Option LineFault) → s.tells ≡ false → s.echoes ≡ false → given.plan ≡ s.plan → given.acts ≡ s.acts → given.is_wide ≡ s.is_wide
     → row ≡ row_at given.log ((present s).now + 1) → Reads s line (Tick row) text fault t → Answers given s.inputs (Step 1) text t.inputs
-rows-as given s t line text row fault tells echoes plan acts e o =
-    one-step (setup (with_row row s)) given s.inputs text t.inputs plan acts
+rows-as given s t line text row fault tells echoes plan acts wide e o =
+    one-step (setup (with_row row s)) given s.inputs text t.inputs plan acts wide
     (ap (λ (p : Plan). TakesTick (row_at given.log ((replay p s.inputs).now + 1))) plan ∙ ap TakesTick (sym e ∙ sym (held-row row (present s).now)))
     (answered-as (with_row row s) t line text (Step 1) fault tells echoes o)
 
 -- ## Whole runs
 
-asked-as : (given other : Setup) (is : List Input) (cmd : Cmd) (text : List ℕ) (new : List Input) → other.plan ≡ given.plan → other.acts ≡ given.acts → Asked given is cmd text new → Asked other is cmd text new
-asked-as given other is cmd text new p acts a = record {
+asked-as : (given other : Setup) (is : List Input) (cmd : Cmd) (text : List ℕ) (new : List Input) → other.plan ≡ given.plan → other.acts ≡ given.acts → other.is_wide ≡ given.is_wide → Asked given is cmd text new → Asked other is cmd text new
+asked-as given other is cmd text new p acts wide a = record {
   answer = a.answer;
   right = subst (λ (q : Plan). IsRight q is cmd a.answer) (sym p) a.right;
   stop = a.stop;
   left = subst (λ (q : Plan). answers.Leads other (remaining_after q is cmd a.answer) (follower_of other is cmd a.answer) a.stop new) (sym p)
       (subst (λ (next : Option Input). answers.Leads other (remaining_after given.plan is cmd a.answer) next a.stop new) (sym (follower-of-as given other is cmd a.answer p acts))
       (leads-as given other (remaining_after given.plan is cmd a.answer) (follower_of given is cmd a.answer) a.stop new p a.left));
-  line = subst (λ (q : Plan). text ≡ with_feed (told cmd a.answer (replay q (remaining_after q is cmd a.answer))) ++ refused_after [] a.stop) (sym p) a.line;
+  line = a.line ∙ (λ j. with_feed (told (sym wide j) cmd a.answer (replay (sym p j) (remaining_after (sym p j) is cmd a.answer))) ++ refused_after [] a.stop);
 }
 
 -- what takes no tick is answered alike on each log
-other-log : (given other : Setup) (is : List Input) (c : Command) (text : List ℕ) (new : List Input) → other.plan ≡ given.plan → other.acts ≡ given.acts → TakesNoTick c → Answers given is c text new → Answers other is c text new
-other-log given other is (Step n) text new p acts none a = absurd none
-other-log given other is Show text new p acts none a = (subst (λ (q : Plan). text ≡ with_feed (display_line (replay q is))) (sym p) a.0, a.1)
-other-log given other is Quit text new p acts none a = a
-other-log given other is c text new p acts none a = asked-as given other is _ text new p acts a
+other-log : (given other : Setup) (is : List Input) (c : Command) (text : List ℕ) (new : List Input) → other.plan ≡ given.plan → other.acts ≡ given.acts → other.is_wide ≡ given.is_wide → TakesNoTick c → Answers given is c text new → Answers other is c text new
+other-log given other is (Step n) text new p acts wide none a = absurd none
+other-log given other is Show text new p acts wide none a = (a.0 ∙ (λ j. with_feed (line_in (sym wide j) (replay (sym p j) is))), a.1)
+other-log given other is Quit text new p acts wide none a = a
+other-log given other is c text new p acts wide none a = asked-as given other is _ text new p acts wide a
 
 -- where a live run goes on after a command, a session does
 goes-on : (c : Command) (x : Option Stopped) → On ≡ flow_of (quits (Ask (live.Session c))) x → On ≡ flow_after c
@@ -253,18 +253,28 @@ record Alike (given : Setup) (s : Live) : Type 0 where
   tells : s.tells ≡ false
   echoes : s.echoes ≡ false
 
+-- the session where a live run is
+abbrev standing : Setup → Live → Stand
+standing given s = stand given s.is_wide s.inputs
+
 replied : (given : Setup) (s t : Live) (line text : List ℕ) (asks : LiveReading) (there : Reading) (fault : Option LineFault) (x : Option Stopped) → Alike given s → AsksAsThere given s asks there
-    → Reads s line asks text fault t → On ≡ flow_of (quits asks) x → Replies (stand given s.inputs) there text On (stand given t.inputs)
-replied given s t line text Skip there fault x same asks a on = subst (λ (r : Reading). Replies (stand given s.inputs) r text On (stand given t.inputs)) (sym asks) (a.0, refl, ap (λ (u : Live). stand given u.inputs) a.2)
+    → Reads s line asks text fault t → On ≡ flow_of (quits asks) x → Replies (standing given s) there text On (standing given t)
+replied given s t line text Skip there fault x same asks a on = subst (λ (r : Reading). Replies (standing given s) r text On (standing given t)) (sym asks) (a.0, refl, ap (standing given) a.2)
 replied given s t line text Bad there fault x same asks a on =
-    subst (λ (r : Reading). Replies (stand given s.inputs) r text On (stand given t.inputs)) (sym asks)
-    (a.0 ∙ ap (λ (b : Bool). echo_of b line ++ with_feed (codes "bad command")) same.echoes, refl, ap (λ (u : Live). stand given u.inputs) a.2)
+    subst (λ (r : Reading). Replies (standing given s) r text On (standing given t)) (sym asks)
+    (a.0 ∙ ap (λ (b : Bool). echo_of b line ++ with_feed (codes "bad command")) same.echoes, refl, ap (standing given) a.2)
 replied given s t line text (Tick row) there fault x same asks a on =
-    subst (λ (r : Reading). Replies (stand given s.inputs) r text On (stand given t.inputs)) (sym asks.1)
-    (rows-as given s t line text row fault same.tells same.echoes same.plan same.acts asks.0 a, refl, refl)
+    subst (λ (r : Reading). Replies (standing given s) r text On (standing given t)) (sym asks.1)
+    (rows-as (laid s.is_wide given) s t line text row fault same.tells same.echoes same.plan same.acts refl asks.0 a, refl, ap (λ (u : Live). laid u.is_wide given) a.4)
 replied given s t line text (Ask (live.Session c)) there fault x same asks a on =
-    subst (λ (r : Reading). Replies (stand given s.inputs) r text On (stand given t.inputs)) (sym asks.1)
-    (other-log (setup s) given s.inputs c text t.inputs same.plan same.acts asks.0 (answered-as s t line text c fault same.tells same.echoes a), goes-on c x on, refl)
+    subst (λ (r : Reading). Replies (standing given s) r text On (standing given t)) (sym asks.1) (
+      other-log (setup s) (laid s.is_wide given) s.inputs c text t.inputs same.plan same.acts refl asks.0 (answered-as s t line text c fault same.tells same.echoes a),
+      goes-on c x on,
+      ap (λ (u : Live). laid u.is_wide given) a.4,
+    )
+replied given s t line text (Ask (live.Lines is_wide)) there fault x same asks a on =
+    subst (λ (r : Reading). Replies (standing given s) r text On (standing given t)) (sym asks)
+    (a.0 ∙ ap (λ (b : Bool). echo_of b line ++ with_feed (codes "ok")) same.echoes, refl, ap (standing given) a.2)
 replied given s t line text (Ask c) there fault x same asks a on = absurd asks
 
 -- they stay off, and the schedule acts on
@@ -281,6 +291,7 @@ same-off given s t line text Skip there fault asks a = same-after s t s a.2 (rec
 same-off given s t line text Bad there fault asks a = same-after s t s a.2 (record { tells = refl; echoes = refl; acts = refl })
 same-off given s t line text (Tick row) there fault asks a = same-after s t (with_inputs a.1 (with_row row s)) a.4 (record { tells = refl; echoes = refl; acts = refl })
 same-off given s t line text (Ask (live.Session c)) there fault asks a = same-after s t (with_inputs a.1 s) a.4 (record { tells = refl; echoes = refl; acts = refl })
+same-off given s t line text (Ask (live.Lines is_wide)) there fault asks a = same-after s t (with_lines is_wide s) a.2 (record { tells = refl; echoes = refl; acts = refl })
 same-off given s t line text (Ask c) there fault asks a = absurd asks
 
 still-alike : (given : Setup) (s now : Live) (n : ℕ) (line text : List ℕ) (there : Reading) → Alike given s → AsksAsThere given s (live_reading line) there → Says s n line text On now → Alike given now
@@ -295,12 +306,12 @@ still-alike given s now n line text there same asks a =
 
 -- a session to which the other lines are given has come as far
 record AsFar (given : Setup) (others : List (List ℕ)) (text : List ℕ) (now : Live) : Type 0 where
-  runs : Runs 202 says (stand given []) others text (stand given now.inputs)
+  runs : Runs 202 says (stand given false []) others text (standing given now)
   same : Alike given now
 
 as-far : (given : Setup) (lines others : List (List ℕ)) (text : List ℕ) (now : Live) → RunsAsThere given (begun GoOn given.acts given.plan) lines others text now → AsFar given others text now
 as-far given [] [] text now r = record {
-  runs = (r.0, ap (λ (u : Live). stand given u.inputs) r.1);
+  runs = (r.0, ap (standing given) r.1);
   same = subst (λ (u : Live). Alike given u) (sym r.1) (record { plan = refl; acts = refl; tells = refl; echoes = refl });
 }
 as-far given [] (other ∷ others) text now r = absurd r
@@ -311,9 +322,9 @@ as-far given (line ∷ lines) (other ∷ others) text now r =
       runs = (
         r.0,
         r.1,
-        stand given r.2.inputs,
+        standing given r.2,
         before.runs,
-        subst (λ (u : Live). Replies (stand given r.2.inputs) (reading (asked 202 other)) r.1 On (stand given u.inputs)) (sym r.4.stops)
+        subst (λ (u : Live). Replies (standing given r.2) (reading (asked 202 other)) r.1 On (standing given u)) (sym r.4.stops)
             (replied given r.2 r.4.left (asked 202 line) r.1 (live_reading (asked 202 line)) (reading (asked 202 other)) r.4.fault (stopped_at r.2.on_fault (suc (length lines)) (asked 202 line) r.4.fault) before.same r.5 r.4.reads r.4.goes),
         r.6,
       );
@@ -321,5 +332,5 @@ as-far given (line ∷ lines) (other ∷ others) text now r =
     }
 
 pub runs-as : (given : Setup) (lines others : List (List ℕ)) (text : List ℕ) (now : Live) → RunsAsThere given (begun GoOn given.acts given.plan) lines others text now →
-    Runs 202 says (stand given []) others text (stand given now.inputs)
+    Runs 202 says (stand given false []) others text (stand given now.is_wide now.inputs)
 runs-as given lines others text now r = (as-far given lines others text now r).runs

@@ -19,14 +19,14 @@ use Rattle.tsb_dialog.specs.declared.answers.Flow.{Flow}
 use Rattle.tsb_dialog.specs.Said.{IsCutShort, Said, SaidUntilFault, with_feed}
 use Rattle.tsb_dialog.specs.Says.{Answered}
 use Rattle.tsb_dialog.proofs.SaidLemmas.{said-nothing, until-more}
-use Rattle.tsb_text.specs.Answers.{display_line, refused_line, when_line}
+use Rattle.tsb_text.specs.Answers.{line_in, refused_line, when_line}
 use Rattle.tsb_text.specs.Faults.{fault_words}
 use Rattle.tsb_text.specs.declared.course.Mode.{Mode}
 use Rattle.tsb_text.specs.declared.course.Mode.TheVariants.{Plain, Keeping as KeepsInputs, Telling, Recording}
 use Rattle.tsb_text.specs.declared.faults.LineFault.{LineFault}
 use Rattle.tsb_text.specs.declared.faults.LineFault.TheVariants as faults
 use Rattle.tsb_text.specs.declared.faults.OnFault.{OnFault}
-use Rattle.tsb_text.specs.Obeyed.{Done, IsKept, Keeps, OnCourse, Stands, besides_of, holding, mode_with, tells_in}
+use Rattle.tsb_text.specs.Obeyed.{Done, IsKept, Keeps, OnCourse, Stands, besides_of, holding, laid, mode_with, tells_in}
 use Rattle.tsb_text.specs.Obeys as session
 use Rattle.tsb_text.specs.Obeys.{Besides}
 use Rattle.tsb_text.specs.Tasks.{task_of}
@@ -43,7 +43,7 @@ use Rattle.tsb_command_text.specs.LiveReadings.{live_reading}
 use Rattle.tsb_text.specs.Stops.{Stopped, flow_after, stop_in, stopped_at}
 use Rattle.tsb_live_text.specs.Changes.{Changes}
 use Rattle.tsb_live_text.specs.GoTo.{command_to, tick_of}
-use Rattle.tsb_live_text.specs.Live.{AsksLive, GoesTo, Leaves, Live, Obeys, Reads, Says, Tells, TellsTick, besides, echo_of, fault_by, present, begun, quits, setup, with_echo, with_events, with_inputs, with_row, with_stop}
+use Rattle.tsb_live_text.specs.Live.{AsksLive, GoesTo, Leaves, Live, Obeys, Reads, Says, Tells, TellsTick, besides, echo_of, fault_by, present, begun, quits, setup, with_echo, with_events, with_inputs, with_lines, with_row, with_stop}
 use Rattle.tsb_live_text.specs.Standing.{Does, StandsLive, TellsMade, TellsOnce, TellsPlan, TellsTickOnce}
 use Rattle.tsb_live_text.specs.declared.run.LiveRun.{LiveRun}
 
@@ -84,7 +84,7 @@ stands-on run new s left stands course mode echoes on_fault stop = record {
 -- a row was given
 pub row-stands : (run new : LiveRun) (s : Live) (row : Row) → StandsLive run s → new.course ≡ holding row run.course → new.echoes ≡ run.echoes → new.on_fault ≡ run.on_fault → new.stop ≡ run.stop → StandsLive new (with_row row s)
 row-stands run new s row stands course echoes on_fault stop = record {
-  stands = subst (λ (x : OnCourse). Stands (setup (with_row row s)) (rows_in (HeldRow row)) x s.inputs) (sym course) (record { same = refl; rows = refl; follows = stands.stands.follows; keeps = stands.stands.keeps; tells = not-recorded run.course.mode run.course.told.told (setup (with_row row s)) s.inputs stands.keeps; acts = stands.stands.acts });
+  stands = subst (λ (x : OnCourse). Stands (setup (with_row row s)) (rows_in (HeldRow row)) x s.inputs) (sym course) (record { same = refl; rows = refl; follows = stands.stands.follows; keeps = stands.stands.keeps; tells = not-recorded run.course.mode run.course.told.told (setup (with_row row s)) s.inputs stands.keeps; acts = stands.stands.acts; wide = stands.stands.wide });
   keeps = subst (λ (x : OnCourse). Keeps x.mode) (sym course) stands.keeps;
   tells = ap (λ (x : OnCourse). tells_in x.mode) course ∙ stands.tells;
   echoes = echoes ∙ stands.echoes;
@@ -117,9 +117,9 @@ mode-kept false KeepsInputs kept plan is k same = same
 mode-kept true Telling kept plan is k same = same
 mode-kept false Telling kept plan is k same = same
 
-pub events-stands : (run new : LiveRun) (s : Live) (on : Bool) → StandsLive run s → new.course.mode ≡ mode_with on run.course.mode → new.course.bench ≡ run.course.bench → new.course.rows ≡ run.course.rows → new.course.kept ≡ run.course.kept → new.course.acts ≡ run.course.acts
+pub events-stands : (run new : LiveRun) (s : Live) (on : Bool) → StandsLive run s → new.course.mode ≡ mode_with on run.course.mode → new.course.bench ≡ run.course.bench → new.course.rows ≡ run.course.rows → new.course.kept ≡ run.course.kept → new.course.acts ≡ run.course.acts → new.course.is_wide ≡ run.course.is_wide
     → new.echoes ≡ run.echoes → new.on_fault ≡ run.on_fault → new.stop ≡ run.stop → StandsLive new (with_events on s)
-events-stands run new s on stands mode bench rows kept acts echoes on_fault stop = record {
+events-stands run new s on stands mode bench rows kept acts wide echoes on_fault stop = record {
   stands = record {
     same = stands.stands.same;
     rows = rows ∙ stands.stands.rows;
@@ -128,6 +128,7 @@ events-stands run new s on stands mode bench rows kept acts echoes on_fault stop
         (subst (λ (k : Keeping). IsKept (mode_with on run.course.mode) k s.plan s.inputs) (sym (ap (λ (k : Stock). k.kept) kept)) (mode-kept on run.course.mode run.course.kept.kept s.plan s.inputs stands.keeps stands.stands.keeps));
     tells = not-recorded new.course.mode new.course.told.told (setup s) s.inputs (subst Keeps (sym mode) (mode-keeps on run.course.mode stands.keeps));
     acts = acts ∙ stands.stands.acts;
+    wide = wide ∙ stands.stands.wide;
   };
   keeps = subst Keeps (sym mode) (mode-keeps on run.course.mode stands.keeps);
   tells = ap tells_in mode ∙ mode-tells on run.course.mode stands.keeps;
@@ -147,11 +148,22 @@ echo-stands run new s on stands course echoes on_fault stop = record {
   stop = ap stop_in stop ∙ stands.stop;
 }
 
+-- display lines are wide from now on, or not
+pub lines-stands : (run new : LiveRun) (s : Live) (is_wide : Bool) → StandsLive run s → new.course ≡ laid is_wide run.course → new.echoes ≡ run.echoes → new.on_fault ≡ run.on_fault → new.stop ≡ run.stop → StandsLive new (with_lines is_wide s)
+lines-stands run new s is_wide stands course echoes on_fault stop = record {
+  stands = subst (λ (x : OnCourse). Stands (setup (with_lines is_wide s)) (rows_in (HeldRow s.row)) x s.inputs) (sym course) (record { same = refl; rows = stands.stands.rows; follows = stands.stands.follows; keeps = stands.stands.keeps; tells = not-recorded run.course.mode run.course.told.told (setup (with_lines is_wide s)) s.inputs stands.keeps; acts = stands.stands.acts; wide = refl });
+  keeps = subst (λ (x : OnCourse). Keeps x.mode) (sym course) stands.keeps;
+  tells = ap (λ (x : OnCourse). tells_in x.mode) course ∙ stands.tells;
+  echoes = echoes ∙ stands.echoes;
+  on_fault = on_fault ∙ stands.on_fault;
+  stop = ap stop_in stop ∙ stands.stop;
+}
+
 -- at power-up
 pub run-begins : (on_fault : OnFault) (acts : Bool) (plan : Plan) (run : LiveRun) → run.course.mode ≡ KeepsInputs → run.on_fault ≡ on_fault → Follows plan (whole run.course.bench) [] → run.course.rows ≡ rows_in (HeldRow all_off) → run.course.kept.kept ≡ nothing_kept → run.course.told.told ≡ nothing_told
-    → run.course.acts ≡ acts → run.echoes ≡ false → run.stop ≡ None → StandsLive run (begun on_fault acts plan)
-run-begins on_fault acts plan run mode strict follows rows kept told active echoes stop = record {
-  stands = course-begins (setup (begun on_fault acts plan)) (rows_in (HeldRow all_off)) run.course refl rows follows kept told active;
+    → run.course.acts ≡ acts → run.course.is_wide ≡ false → run.echoes ≡ false → run.stop ≡ None → StandsLive run (begun on_fault acts plan)
+run-begins on_fault acts plan run mode strict follows rows kept told active narrow echoes stop = record {
+  stands = course-begins (setup (begun on_fault acts plan)) (rows_in (HeldRow all_off)) run.course refl rows follows kept told active narrow;
   keeps = subst Keeps (sym mode) tt;
   tells = ap tells_in mode;
   echoes = echoes;
@@ -189,11 +201,12 @@ obeys-so run s line echo c stands is = λ text refusal left o. subst (λ (x : Be
 
 -- of ticks of which the changes are told
 pub changes-so : (run : LiveRun) (s : Live) (line echo : List ℕ) (n : ℕ) → StandsLive run s → echo ≡ echo_of run.echoes line
-    → Carries (Changes (setup s) (besides_of run.course echo) s.row s.inputs (display_line (state_of run.course.bench)) false n)
-    (Changes (setup s) (besides s line) s.row s.inputs (display_line (present s)) false n)
+    → Carries (Changes (setup s) (besides_of run.course echo) s.row s.inputs (line_in run.course.is_wide (state_of run.course.bench)) false n)
+    (Changes (setup s) (besides s line) s.row s.inputs (line_in s.is_wide (present s)) false n)
 changes-so run s line echo n stands is = λ text refusal left o.
-    subst (λ (x : Besides). Changes (setup s) x s.row s.inputs (display_line (present s)) false n text refusal left) (same-besides run s line echo stands is)
-    (subst (λ (v : State). Changes (setup s) (besides_of run.course echo) s.row s.inputs (display_line v) false n text refusal left) (present-state run s stands) o)
+    subst (λ (x : Besides). Changes (setup s) x s.row s.inputs (line_in s.is_wide (present s)) false n text refusal left) (same-besides run s line echo stands is)
+    (subst (λ (l : List ℕ). Changes (setup s) (besides_of run.course echo) s.row s.inputs l false n text refusal left)
+    (λ j. line_in (stands.stands.wide j) (present-state run s stands j)) o)
 
 -- ## Answers of one line
 

@@ -10,8 +10,8 @@ use Rattle.tsb_command_text.specs.declared.command.Reading.{Reading}
 use Rattle.tsb_command_text.specs.declared.command.Reading.TheVariants as session
 use Rattle.tsb_command_text.specs.LiveReadings.{live_reading}
 use Rattle.tsb_command_text.specs.declared.live_command.LiveReading.{LiveReading}
-use Rattle.tsb_command_text.specs.declared.live_command.LiveCommand.TheVariants.{Session}
-use Rattle.tsb_text.specs.Replies.{Stand, says}
+use Rattle.tsb_command_text.specs.declared.live_command.LiveCommand.TheVariants.{Lines, Session}
+use Rattle.tsb_text.specs.Replies.{Stand, laid, says}
 use Rattle.tsb_text.specs.declared.faults.OnFault.TheVariants.{GoOn}
 use Rattle.tsb_command_text.specs.declared.live_command.LiveReading.TheVariants.{Skip, Bad, Tick, Ask}
 use Rattle.tsb_log_text.specs.Logs.{row_at}
@@ -24,7 +24,7 @@ use Rattle.tsb_text.specs.declared.faults.OnFault.{OnFault}
 use Rattle.tsb_types.specs.declared.row.Row.{Row}
 use Rattle.tsb_live_text.specs.Live.{Live, Obeys, Reads, Says, begun, present, setup}
 
--- the inputs of a live run were all taken, each where it stands, on this plan
+-- the inputs of a live run were all taken, each in its place, on this plan
 pub record AreOf (plan : Plan) (s : Live) : Type 0 where
   pub taken : AreTaken plan s.inputs
   pub same : s.plan ≡ plan
@@ -46,10 +46,10 @@ CommandsAreAnsweredAsThere = (s t : Live) (line text : List ℕ) (c : Command) (
     Obeys s line c text fault t → Answers (setup s) s.inputs c text t.inputs
 
 -- and a row, where a log has it at the next tick, as `step 1` of a session on that log, where the schedule acts in both or in
--- neither
+-- neither, and display lines are wide in both or in neither
 abbrev pub RowsAreAnsweredAsThere : Type 0
 RowsAreAnsweredAsThere = (given : Setup) (s t : Live) (line text : List ℕ) (row : Row) (fault : Option LineFault) → s.tells ≡ false → s.echoes ≡ false →
-    given.plan ≡ s.plan → given.acts ≡ s.acts → row ≡ row_at given.log ((present s).now + 1) → Reads s line (Tick row) text fault t → Answers given s.inputs (Step 1) text t.inputs
+    given.plan ≡ s.plan → given.acts ≡ s.acts → given.is_wide ≡ s.is_wide → row ≡ row_at given.log ((present s).now + 1) → Reads s line (Tick row) text fault t → Answers given s.inputs (Step 1) text t.inputs
 
 -- ## Whole runs
 -- A live run and a session on a log, line by line.
@@ -65,6 +65,7 @@ AsksAsThere given s (Tick row) there = (row ≡ row_at given.log ((present s).no
 AsksAsThere given s Skip there = there ≡ session.Skip
 AsksAsThere given s Bad there = there ≡ session.Bad
 AsksAsThere given s (Ask (Session c)) there = TakesNoTick c × (there ≡ session.Do c)
+AsksAsThere given s (Ask (Lines is_wide)) there = there ≡ session.Lines is_wide
 -- a session has no such command
 AsksAsThere given s (Ask c) there = ⊥
 
@@ -77,11 +78,11 @@ RunsAsThere given from (line ∷ lines) (other ∷ others) text now = (before an
     × Says then (suc (length lines)) (asked 202 line) answer On now
     × AsksAsThere given then (live_reading (asked 202 line)) (reading (asked 202 other)) × (text ≡ before ++ answer)
 
--- a session where these inputs remain
-abbrev pub stand : Setup → List Input → Stand
-stand given is = record { given = given; inputs = is }
+-- a session with or without wide lines, where these inputs remain
+abbrev pub stand : Setup → Bool → List Input → Stand
+stand given is_wide is = record { given = laid is_wide given; inputs = is }
 
 -- then the bytes are those of that session, and the same inputs remain
 abbrev pub RunsWriteAsThere : Type 0
 RunsWriteAsThere = (given : Setup) (lines others : List (List ℕ)) (text : List ℕ) (now : Live) → RunsAsThere given (begun GoOn given.acts given.plan) lines others text now →
-    Runs 202 says (stand given []) others text (stand given now.inputs)
+    Runs 202 says (stand given false []) others text (stand given now.is_wide now.inputs)

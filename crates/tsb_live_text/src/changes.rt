@@ -1,5 +1,5 @@
 //! Ticks of which only the changes are told.
-ghost use Rattle.std.specs.Prelude.{◌≡◌, ◌⊎◌, ◌++◌, List, Ok, OnOk, Some, false};
+ghost use Rattle.std.specs.Prelude.{◌≡◌, ◌⊎◌, ◌≤◌, ◌++◌, List, Ok, OnOk, Some, false, length};
 ghost use Rattle.tsb_bench.specs.Held.{state_of};
 ghost use Rattle.tsb_dialog.specs.Said.{SaidUntilFault, with_feed};
 ghost use Rattle.tsb_dialog.specs.Blame.{AfterCalls};
@@ -69,6 +69,7 @@ fn say_tick<W: Write>(
     pending: &mut Pending,
     writer: &mut Watched<W>,
 ) -> Result<Option<Refusal>, WriteError>
+    requires { length line.now ≤ 70 }
     ensures done { (given : Setup) (log : List LogRow) (inputs : List InputValue) → Stands given log course.old inputs
         → Done result given log course.new (TellsTick given (tells_in course.old.mode) inputs course.old.next (news_in course.old) (owed is_owed line.now)) (W.contents writer.old.device) (W.contents writer.new.device) pending.old pending.new }
     ensures wanting { result ≡ Ok (Some Memory) → WantsAfter course.new course.old.next }
@@ -91,6 +92,7 @@ fn say_stop<W: Write>(
     pending: &mut Pending,
     writer: &mut Watched<W>,
 ) -> Result<Option<Refusal>, WriteError>
+    requires { length line.now ≤ 70 }
     ensures said { SaidUntilFault result (W.contents writer.old.device) (W.contents writer.new.device) pending.old pending.new (owed is_owed line.now ++ (echo.now ++ with_feed (refused_line refusal.now))) }
     ensures told { OnOk result (result ≡ Ok (Some refusal.now)) }
     ensures blame { writer.old.failed ≡ false → AfterCalls result writer.new.failed }
@@ -106,6 +108,7 @@ fn say_owed<W: Write>(
     pending: &mut Pending,
     writer: &mut Watched<W>,
 ) -> Result<(), WriteError>
+    requires { length line.now ≤ 70 }
     ensures said { SaidUntilFault result (W.contents writer.old.device) (W.contents writer.new.device) pending.old pending.new (owed is_owed line.now) }
     ensures blame { writer.old.failed ≡ false → AfterCalls result writer.new.failed }
 {
@@ -117,6 +120,8 @@ fn say_owed<W: Write>(
 
 /// Whether two display lines show the same heads and the same preempt.
 fn shows_same(line: &LineText, other: &LineText) -> bool
+    requires line { 53 ≤ length line.now }
+    requires other { 53 ≤ length other.now }
     ensures { result ≡ shows_same line.now other.now }
 {
     let (line, other) = (line.as_bytes(), other.as_bytes());

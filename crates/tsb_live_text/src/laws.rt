@@ -16,8 +16,9 @@ pub fn live_inputs_are_taken()
 /// are one text, and the same inputs remain. A single command is answered as in a session in which each tick has the row
 /// last given.
 ///
-/// Needs: for `rows` and `commands`, that events and echo are off; for `rows`, that the plans are one, and that the
-/// schedule acts in both or in neither; for `runs`, that the run is not strict.
+/// Needs: for `rows` and `commands`, that events and echo are off; for `rows`, that the plans are one, that the schedule
+/// acts in both or in neither, and that display lines are wide in both or in neither; for `runs`, that the run is not
+/// strict.
 /// Not said: `step 2` and more on a log, since a live run takes these ticks with the row last given; the line that ends
 /// the run.
 /// Mistake: the tick has the row that was given before (`is_on`, `would_be_off`).

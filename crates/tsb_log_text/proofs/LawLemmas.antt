@@ -6,11 +6,13 @@ use Rattle.std.proofs.lemmas.Nat.Bits.{bit_at_lowest, bit_at-suc}
 use Rattle.std.specs.Int.{bit_at}
 use Rattle.tsb_lines.specs.Lines.{is_skipped, lines_of}
 use Rattle.tsb_types.specs.Sets.{names, all_off}
-use Rattle.tsb_log_text.specs.Rows.{row_of, list_in_digits, onto_digits}
+use Rattle.tsb_log_text.specs.Forms.{form_of, row_in}
+use Rattle.tsb_log_text.specs.Rows.{list_in_digits, onto_digits}
 use Rattle.tsb_log_text.specs.Logs.{rows_from, row_then, with_rows, log_of, row_at, Rises}
 use Rattle.tsb_log_text.specs.Places.{tick_at, no_row}
 use Rattle.tsb_log_text.specs.Laws.{heeded, last_tick, StandsBehind, AreTheRows, AreMalformedThere, AreOutOfOrderThere}
 use Rattle.tsb_log_text.proofs.PlaceLemmas.{row-at}
+use Rattle.tsb_log_text.specs.declared.form.RowForm.{RowForm}
 use Rattle.tsb_log_text.specs.declared.log.LogRow.{LogRow}
 use Rattle.tsb_log_text.specs.declared.error.LogError.{LogError}
 use Rattle.tsb_log_text.specs.declared.error.LogError.TheVariants.{Memory, TooLarge, Malformed, TickOrder}
@@ -90,13 +92,13 @@ off-before rows tick h all = sym (row-at rows tick 0 h (record { within = omega 
 
 -- what was read, or the first fault
 
-abbrev Explained : ℕ → ℕ → List (List ℕ) → Result (List LogRow) LogError → Type 0
-Explained first last lines (Ok rows) = (map row_of (heeded lines) ≡ map Some rows) × Rises last rows
-Explained first last lines (Err Memory) = ⊥
-Explained first last lines (Err TooLarge) = ⊥
-Explained first last lines (Err (Malformed m)) = (rows : List LogRow) × (line : List ℕ) × StandsBehind first last rows m line lines × (row_of line ≡ None)
-Explained first last lines (Err (TickOrder m)) =
-    (rows : List LogRow) × (line : List ℕ) × (row : LogRow) × StandsBehind first last rows m line lines × (row_of line ≡ Some row) × (row.tick ≤ last_tick last rows)
+abbrev Explained : RowForm → ℕ → ℕ → List (List ℕ) → Result (List LogRow) LogError → Type 0
+Explained form first last lines (Ok rows) = (map (row_in form) (heeded lines) ≡ map Some rows) × Rises last rows
+Explained form first last lines (Err Memory) = ⊥
+Explained form first last lines (Err TooLarge) = ⊥
+Explained form first last lines (Err (Malformed m)) = (rows : List LogRow) × (line : List ℕ) × StandsBehind form first last rows m line lines × (row_in form line ≡ None)
+Explained form first last lines (Err (TickOrder m)) =
+    (rows : List LogRow) × (line : List ℕ) × (row : LogRow) × StandsBehind form first last rows m line lines × (row_in form line ≡ Some row) × (row.tick ≤ last_tick last rows)
 
 heed-skipped : (line : List ℕ) (lines : List (List ℕ)) → is_skipped line ≡ true → heeded (line ∷ lines) ≡ heeded lines
 heed-skipped line lines e = rw e refl
@@ -105,71 +107,71 @@ heed-skipped line lines e = rw e refl
 pub heed-row : (line : List ℕ) (lines : List (List ℕ)) → is_skipped line ≡ false → heeded (line ∷ lines) ≡ line ∷ heeded lines
 heed-row line lines e = rw e refl
 
-read-row : (line : List ℕ) (lines : List (List ℕ)) (r : LogRow) (rows : List LogRow) → is_skipped line ≡ false → row_of line ≡ Some r
-    → map row_of (heeded lines) ≡ map Some rows → map row_of (heeded (line ∷ lines)) ≡ map Some (r ∷ rows)
-read-row line lines r rows e some h =
-    ap (map row_of) (heed-row line lines e) ∙ ap (λ (o : Option LogRow). o ∷ map row_of (heeded lines)) some ∙ ap (λ (os : List (Option LogRow)). Some r ∷ os) h
+read-row : (form : RowForm) (line : List ℕ) (lines : List (List ℕ)) (r : LogRow) (rows : List LogRow) → is_skipped line ≡ false → row_in form line ≡ Some r
+    → map (row_in form) (heeded lines) ≡ map Some rows → map (row_in form) (heeded (line ∷ lines)) ≡ map Some (r ∷ rows)
+read-row form line lines r rows e some h =
+    ap (map (row_in form)) (heed-row line lines e) ∙ ap (λ (o : Option LogRow). o ∷ map (row_in form) (heeded lines)) some ∙ ap (λ (os : List (Option LogRow)). Some r ∷ os) h
 
-stands-skip : (first last : ℕ) (rows : List LogRow) (m : ℕ) (at line : List ℕ) (lines : List (List ℕ)) → is_skipped line ≡ true
-    → StandsBehind (first + 1) last rows m at lines → StandsBehind first last rows m at (line ∷ lines)
-stands-skip first last rows m at line lines e s = record {
+stands-skip : (form : RowForm) (first last : ℕ) (rows : List LogRow) (m : ℕ) (at line : List ℕ) (lines : List (List ℕ)) → is_skipped line ≡ true
+    → StandsBehind form (first + 1) last rows m at lines → StandsBehind form first last rows m at (line ∷ lines)
+stands-skip form first last rows m at line lines e s = record {
   front = line ∷ s.front;
   back = s.back;
   whole = ap (λ (ls : List (List ℕ)). line ∷ ls) s.whole;
   place = (let p : m ≡ first + 1 + length s.front = s.place in omega (arith, p));
-  read = ap (map row_of) (heed-skipped line s.front e) ∙ s.read;
+  read = ap (map (row_in form)) (heed-skipped line s.front e) ∙ s.read;
   rises = s.rises;
   heeded = s.heeded;
 }
 
-stands-row : (first last : ℕ) (r : LogRow) (rows : List LogRow) (m : ℕ) (at line : List ℕ) (lines : List (List ℕ)) → is_skipped line ≡ false → row_of line ≡ Some r
-    → last < r.tick → StandsBehind (first + 1) r.tick rows m at lines → StandsBehind first last (r ∷ rows) m at (line ∷ lines)
-stands-row first last r rows m at line lines e some lt s = record {
+stands-row : (form : RowForm) (first last : ℕ) (r : LogRow) (rows : List LogRow) (m : ℕ) (at line : List ℕ) (lines : List (List ℕ)) → is_skipped line ≡ false → row_in form line ≡ Some r
+    → last < r.tick → StandsBehind form (first + 1) r.tick rows m at lines → StandsBehind form first last (r ∷ rows) m at (line ∷ lines)
+stands-row form first last r rows m at line lines e some lt s = record {
   front = line ∷ s.front;
   back = s.back;
   whole = ap (λ (ls : List (List ℕ)). line ∷ ls) s.whole;
   place = (let p : m ≡ first + 1 + length s.front = s.place in omega (arith, p));
-  read = read-row line s.front r rows e some s.read;
+  read = read-row form line s.front r rows e some s.read;
   rises = (lt, s.rises);
   heeded = s.heeded;
 }
 
-stands-first : (first last : ℕ) (line : List ℕ) (lines : List (List ℕ)) → is_skipped line ≡ false → StandsBehind first last [] first line (line ∷ lines)
-stands-first first last line lines e = record { front = []; back = lines; whole = refl; place = omega arith; read = refl; rises = tt; heeded = e }
+stands-first : (form : RowForm) (first last : ℕ) (line : List ℕ) (lines : List (List ℕ)) → is_skipped line ≡ false → StandsBehind form first last [] first line (line ∷ lines)
+stands-first form first last line lines e = record { front = []; back = lines; whole = refl; place = omega arith; read = refl; rises = tt; heeded = e }
 
-explained-skip : (first last : ℕ) (line : List ℕ) (lines : List (List ℕ)) (read : Result (List LogRow) LogError) → is_skipped line ≡ true
-    → Explained (first + 1) last lines read → Explained first last (line ∷ lines) read
-explained-skip first last line lines (Ok rows) e h = (ap (map row_of) (heed-skipped line lines e) ∙ h.0, h.1)
-explained-skip first last line lines (Err Memory) e h = h
-explained-skip first last line lines (Err TooLarge) e h = h
-explained-skip first last line lines (Err (Malformed m)) e h = (h.0, h.1, stands-skip first last h.0 m h.1 line lines e h.2, h.3)
-explained-skip first last line lines (Err (TickOrder m)) e h = (h.0, h.1, h.2, stands-skip first last h.0 m h.1 line lines e h.3, h.4, h.5)
+explained-skip : (form : RowForm) (first last : ℕ) (line : List ℕ) (lines : List (List ℕ)) (read : Result (List LogRow) LogError) → is_skipped line ≡ true
+    → Explained form (first + 1) last lines read → Explained form first last (line ∷ lines) read
+explained-skip form first last line lines (Ok rows) e h = (ap (map (row_in form)) (heed-skipped line lines e) ∙ h.0, h.1)
+explained-skip form first last line lines (Err Memory) e h = h
+explained-skip form first last line lines (Err TooLarge) e h = h
+explained-skip form first last line lines (Err (Malformed m)) e h = (h.0, h.1, stands-skip form first last h.0 m h.1 line lines e h.2, h.3)
+explained-skip form first last line lines (Err (TickOrder m)) e h = (h.0, h.1, h.2, stands-skip form first last h.0 m h.1 line lines e h.3, h.4, h.5)
 
-explained-row : (first last : ℕ) (line : List ℕ) (lines : List (List ℕ)) (r : LogRow) (read : Result (List LogRow) LogError) → is_skipped line ≡ false
-    → row_of line ≡ Some r → last < r.tick → Explained (first + 1) r.tick lines read → Explained first last (line ∷ lines) (with_rows (r ∷ []) read)
-explained-row first last line lines r (Ok rows) e some lt h = (read-row line lines r rows e some h.0, (lt, h.1))
-explained-row first last line lines r (Err Memory) e some lt h = h
-explained-row first last line lines r (Err TooLarge) e some lt h = h
-explained-row first last line lines r (Err (Malformed m)) e some lt h = (r ∷ h.0, h.1, stands-row first last r h.0 m h.1 line lines e some lt h.2, h.3)
-explained-row first last line lines r (Err (TickOrder m)) e some lt h = (r ∷ h.0, h.1, h.2, stands-row first last r h.0 m h.1 line lines e some lt h.3, h.4, h.5)
+explained-row : (form : RowForm) (first last : ℕ) (line : List ℕ) (lines : List (List ℕ)) (r : LogRow) (read : Result (List LogRow) LogError) → is_skipped line ≡ false
+    → row_in form line ≡ Some r → last < r.tick → Explained form (first + 1) r.tick lines read → Explained form first last (line ∷ lines) (with_rows (r ∷ []) read)
+explained-row form first last line lines r (Ok rows) e some lt h = (read-row form line lines r rows e some h.0, (lt, h.1))
+explained-row form first last line lines r (Err Memory) e some lt h = h
+explained-row form first last line lines r (Err TooLarge) e some lt h = h
+explained-row form first last line lines r (Err (Malformed m)) e some lt h = (r ∷ h.0, h.1, stands-row form first last r h.0 m h.1 line lines e some lt h.2, h.3)
+explained-row form first last line lines r (Err (TickOrder m)) e some lt h = (r ∷ h.0, h.1, h.2, stands-row form first last r h.0 m h.1 line lines e some lt h.3, h.4, h.5)
 
-explained-then : (first last : ℕ) (line : List ℕ) (lines : List (List ℕ)) (o : Option LogRow) (rest : ℕ → Result (List LogRow) LogError) → is_skipped line ≡ false
-    → row_of line ≡ o → ((tick : ℕ) → Explained (first + 1) tick lines (rest tick)) → Explained first last (line ∷ lines) (row_then first last o rest)
-explained-then first last line lines None rest e is h = ([], line, stands-first first last line lines e, is)
-explained-then first last line lines (Some r) rest e is h = elim (leb_tells (suc last) r.tick) [
-  | inl lt ↦ rw lt.0 (explained-row first last line lines r (rest r.tick) e is lt.1 (h r.tick))
-  | inr ge ↦ rw ge.0 ([], line, r, stands-first first last line lines e, is, (let le : r.tick < suc last = ge.1 in omega (arith, le)))
+explained-then : (form : RowForm) (first last : ℕ) (line : List ℕ) (lines : List (List ℕ)) (o : Option LogRow) (rest : ℕ → Result (List LogRow) LogError) → is_skipped line ≡ false
+    → row_in form line ≡ o → ((tick : ℕ) → Explained form (first + 1) tick lines (rest tick)) → Explained form first last (line ∷ lines) (row_then first last o rest)
+explained-then form first last line lines None rest e is h = ([], line, stands-first form first last line lines e, is)
+explained-then form first last line lines (Some r) rest e is h = elim (leb_tells (suc last) r.tick) [
+  | inl lt ↦ rw lt.0 (explained-row form first last line lines r (rest r.tick) e is lt.1 (h r.tick))
+  | inr ge ↦ rw ge.0 ([], line, r, stands-first form first last line lines e, is, (let le : r.tick < suc last = ge.1 in omega (arith, le)))
 ]
 
-explained-line : (first last : ℕ) (line : List ℕ) (lines : List (List ℕ)) (b : Bool) (rest : ℕ → Result (List LogRow) LogError) → is_skipped line ≡ b
-    → ((tick : ℕ) → Explained (first + 1) tick lines (rest tick)) → Explained first last (line ∷ lines) (if b then rest last else row_then first last (row_of line) rest)
-explained-line first last line lines true rest e h = explained-skip first last line lines (rest last) e (h last)
-explained-line first last line lines false rest e h = explained-then first last line lines (row_of line) rest e refl h
+explained-line : (form : RowForm) (first last : ℕ) (line : List ℕ) (lines : List (List ℕ)) (b : Bool) (rest : ℕ → Result (List LogRow) LogError) → is_skipped line ≡ b
+    → ((tick : ℕ) → Explained form (first + 1) tick lines (rest tick)) → Explained form first last (line ∷ lines) (if b then rest last else row_then first last (row_in form line) rest)
+explained-line form first last line lines true rest e h = explained-skip form first last line lines (rest last) e (h last)
+explained-line form first last line lines false rest e h = explained-then form first last line lines (row_in form line) rest e refl h
 
-explained : (first last : ℕ) (lines : List (List ℕ)) → Explained first last lines (rows_from first last lines)
+explained : (form : RowForm) (first last : ℕ) (lines : List (List ℕ)) → Explained form first last lines (rows_from form first last lines)
 unfolding rows_from
-explained first last [] = (refl, tt)
-explained first last (line ∷ lines) = explained-line first last line lines (is_skipped line) (λ tick. rows_from (first + 1) tick lines) refl (λ tick. explained (first + 1) tick lines)
+explained form first last [] = (refl, tt)
+explained form first last (line ∷ lines) = explained-line form first last line lines (is_skipped line) (λ tick. rows_from form (first + 1) tick lines) refl (λ tick. explained form (first + 1) tick lines)
 
 -- and what rises is read
 
@@ -181,27 +183,27 @@ abbrev tail_of : List (Option LogRow) → List (Option LogRow)
 tail_of [] = []
 tail_of (o ∷ os) = os
 
-back-row : (first last : ℕ) (line : List ℕ) (lines : List (List ℕ)) (rows : List LogRow) (rest : ℕ → Result (List LogRow) LogError)
-    → row_of line ∷ map row_of (heeded lines) ≡ map Some rows → Rises last rows
-    → ((tick : ℕ) (more : List LogRow) → map row_of (heeded lines) ≡ map Some more → Rises tick more → rest tick ≡ Ok more) → row_then first last (row_of line) rest ≡ Ok rows
-back-row first last line lines [] rest h rises back = absurd (let e : suc (length (map row_of (heeded lines))) ≡ 0 = ap length h in omega (arith, e))
-back-row first last line lines (r ∷ rows) rest h rises back =
+back-row : (form : RowForm) (first last : ℕ) (line : List ℕ) (lines : List (List ℕ)) (rows : List LogRow) (rest : ℕ → Result (List LogRow) LogError)
+    → row_in form line ∷ map (row_in form) (heeded lines) ≡ map Some rows → Rises last rows
+    → ((tick : ℕ) (more : List LogRow) → map (row_in form) (heeded lines) ≡ map Some more → Rises tick more → rest tick ≡ Ok more) → row_then first last (row_in form line) rest ≡ Ok rows
+back-row form first last line lines [] rest h rises back = absurd (let e : suc (length (map (row_in form) (heeded lines))) ≡ 0 = ap length h in omega (arith, e))
+back-row form first last line lines (r ∷ rows) rest h rises back =
     ap (λ (o : Option LogRow). row_then first last o rest) (ap head_of h)
     ∙ rw (lt-ltb last r.tick rises.0) (ap (with_rows (r ∷ [])) (back r.tick rows (ap tail_of h) rises.1))
 
-back-line : (first last : ℕ) (line : List ℕ) (lines : List (List ℕ)) (rows : List LogRow) (b : Bool) (rest : ℕ → Result (List LogRow) LogError) → is_skipped line ≡ b
-    → map row_of (heeded (line ∷ lines)) ≡ map Some rows → Rises last rows
-    → ((tick : ℕ) (more : List LogRow) → map row_of (heeded lines) ≡ map Some more → Rises tick more → rest tick ≡ Ok more)
-    → (if b then rest last else row_then first last (row_of line) rest) ≡ Ok rows
-back-line first last line lines rows true rest e h rises back = back last rows (sym (ap (map row_of) (heed-skipped line lines e)) ∙ h) rises
-back-line first last line lines rows false rest e h rises back = back-row first last line lines rows rest (sym (ap (map row_of) (heed-row line lines e)) ∙ h) rises back
+back-line : (form : RowForm) (first last : ℕ) (line : List ℕ) (lines : List (List ℕ)) (rows : List LogRow) (b : Bool) (rest : ℕ → Result (List LogRow) LogError) → is_skipped line ≡ b
+    → map (row_in form) (heeded (line ∷ lines)) ≡ map Some rows → Rises last rows
+    → ((tick : ℕ) (more : List LogRow) → map (row_in form) (heeded lines) ≡ map Some more → Rises tick more → rest tick ≡ Ok more)
+    → (if b then rest last else row_then first last (row_in form line) rest) ≡ Ok rows
+back-line form first last line lines rows true rest e h rises back = back last rows (sym (ap (map (row_in form)) (heed-skipped line lines e)) ∙ h) rises
+back-line form first last line lines rows false rest e h rises back = back-row form first last line lines rows rest (sym (ap (map (row_in form)) (heed-row line lines e)) ∙ h) rises back
 
-back : (first last : ℕ) (lines : List (List ℕ)) (rows : List LogRow) → map row_of (heeded lines) ≡ map Some rows → Rises last rows → rows_from first last lines ≡ Ok rows
+back : (form : RowForm) (first last : ℕ) (lines : List (List ℕ)) (rows : List LogRow) → map (row_in form) (heeded lines) ≡ map Some rows → Rises last rows → rows_from form first last lines ≡ Ok rows
 unfolding rows_from
-back first last [] [] h rises = refl
-back first last [] (r ∷ rows) h rises = absurd (let e : 0 ≡ suc (length (map Some rows)) = ap length h in omega (arith, e))
-back first last (line ∷ lines) rows h rises =
-    back-line first last line lines rows (is_skipped line) (λ tick. rows_from (first + 1) tick lines) refl h rises (λ tick more g r. back (first + 1) tick lines more g r)
+back form first last [] [] h rises = refl
+back form first last [] (r ∷ rows) h rises = absurd (let e : 0 ≡ suc (length (map Some rows)) = ap length h in omega (arith, e))
+back form first last (line ∷ lines) rows h rises =
+    back-line form first last line lines rows (is_skipped line) (λ tick. rows_from form (first + 1) tick lines) refl h rises (λ tick more g r. back form (first + 1) tick lines more g r)
 
 -- the whole text
 
@@ -210,23 +212,26 @@ IsTooLarge (Err TooLarge) = Unit {0}
 IsTooLarge (Err e) = ⊥
 IsTooLarge (Ok rows) = ⊥
 
-of-lines : (text : List ℕ) (read : Result (List LogRow) LogError) → log_of text ≡ read → (IsTooLarge read → ⊥) → (length text ≤ 67108864) × (rows_from 1 0 (lines_of text) ≡ read)
+of-lines : (text : List ℕ) (read : Result (List LogRow) LogError) → log_of text ≡ read → (IsTooLarge read → ⊥)
+    → (length text ≤ 67108864) × (rows_from (form_of (lines_of text)) 1 0 (lines_of text) ≡ read)
 of-lines text read e fits = elim (leb_tells (suc 67108864) (length text)) [
   | inl gt ↦ absurd (fits (subst IsTooLarge (rw gt.0 at e) tt))
   | inr le ↦ ((let lt : length text < suc 67108864 = le.1 in omega (arith, lt)), (rw le.0 at e))
 ]
 
-explained-text : (text : List ℕ) (read : Result (List LogRow) LogError) → rows_from 1 0 (lines_of text) ≡ read → Explained 1 0 (lines_of text) read
-explained-text text read e = let P : Result (List LogRow) LogError → Type 0 = λ r. Explained 1 0 (lines_of text) r in subst P e (explained 1 0 (lines_of text))
+explained-text : (form : RowForm) (text : List ℕ) (read : Result (List LogRow) LogError) → rows_from form 1 0 (lines_of text) ≡ read → Explained form 1 0 (lines_of text) read
+explained-text form text read e = let P : Result (List LogRow) LogError → Type 0 = λ r. Explained form 1 0 (lines_of text) r in subst P e (explained form 1 0 (lines_of text))
 
 pub the-rows : AreTheRows
 the-rows text rows = (
-  λ e. (let lines = of-lines text (Ok rows) e (λ large. large) in let read = explained-text text (Ok rows) lines.1 in (lines.0, read.0, read.1)),
-  λ h. rw (le-ltb 67108864 (length text) h.0) (back 1 0 (lines_of text) rows h.1 h.2),
+  λ e. (let lines = of-lines text (Ok rows) e (λ large. large) in let read = explained-text (form_of (lines_of text)) text (Ok rows) lines.1 in (lines.0, read.0, read.1)),
+  λ h. rw (le-ltb 67108864 (length text) h.0) (back (form_of (lines_of text)) 1 0 (lines_of text) rows h.1 h.2),
 )
 
 pub malformed-there : AreMalformedThere
-malformed-there text n e = let lines = of-lines text (Err (Malformed n)) e (λ large. large) in explained-text text (Err (Malformed n)) lines.1
+malformed-there text n e =
+    let lines = of-lines text (Err (Malformed n)) e (λ large. large) in explained-text (form_of (lines_of text)) text (Err (Malformed n)) lines.1
 
 pub out-of-order-there : AreOutOfOrderThere
-out-of-order-there text n e = let lines = of-lines text (Err (TickOrder n)) e (λ large. large) in explained-text text (Err (TickOrder n)) lines.1
+out-of-order-there text n e =
+    let lines = of-lines text (Err (TickOrder n)) e (λ large. large) in explained-text (form_of (lines_of text)) text (Err (TickOrder n)) lines.1

@@ -2,6 +2,12 @@ pub mod DigitLemmas
 pub mod PlaceLemmas
 pub mod ReadLemmas
 pub mod LawLemmas
+pub mod ListLemmas
+pub mod RunsLemmas
+pub mod SpelledLemmas
+pub mod RoomLemmas
 pub mod RowLineLemmas
 pub mod TextLemmas
+pub mod ItemLemmas
+pub mod WrittenLemmas
 pub mod Examples

@@ -2,9 +2,10 @@ use Rattle.std.proofs.Common.{◌≡◌, ℕ, ◌+◌, ◌<◌, ◌≤◌, List,
 use Rattle.std.proofs.lemmas.Bool.{lt-ltb, le-ltb}
 use Rattle.std.proofs.lemmas.Bool.Decides.{leb_tells}
 use Rattle.tsb_lines.specs.Lines.{is_skipped, lines_of}
-use Rattle.tsb_log_text.specs.Rows.{row_of}
+use Rattle.tsb_log_text.specs.Forms.{form_of, row_in}
 use Rattle.tsb_log_text.specs.Logs.{rows_from, row_then, with_rows, log_of, Gives, HasRow, Rises}
 use Rattle.tsb_log_text.specs.Steps.{ReadSo, Stepped}
+use Rattle.tsb_log_text.specs.declared.form.RowForm.{RowForm}
 use Rattle.tsb_log_text.specs.declared.log.LogRow.{LogRow}
 use Rattle.tsb_log_text.specs.declared.error.LogError.{LogError}
 use Rattle.tsb_log_text.specs.declared.error.LogError.TheVariants.{Memory, TooLarge, Malformed, TickOrder}
@@ -33,114 +34,118 @@ sound-choice : (last : ℕ) (b : Bool) (x y : Result (List LogRow) LogError) →
 sound-choice last true x y h k = h
 sound-choice last false x y h k = k
 
-sound : (n last : ℕ) (lines : List (List ℕ)) → Sound last (rows_from n last lines)
+sound : (form : RowForm) (n last : ℕ) (lines : List (List ℕ)) → Sound last (rows_from form n last lines)
 unfolding rows_from
-sound n last [] = tt
-sound n last (line ∷ lines) =
-    sound-choice last (is_skipped line) (rows_from (n + 1) last lines) (row_then n last (row_of line) (λ tick. rows_from (n + 1) tick lines))
-    (sound (n + 1) last lines) (sound-then n last (row_of line) (λ tick. rows_from (n + 1) tick lines) (λ tick. sound (n + 1) tick lines))
+sound form n last [] = tt
+sound form n last (line ∷ lines) =
+    sound-choice last (is_skipped line) (rows_from form (n + 1) last lines) (row_then n last (row_in form line) (λ tick. rows_from form (n + 1) tick lines))
+    (sound form (n + 1) last lines) (sound-then n last (row_in form line) (λ tick. rows_from form (n + 1) tick lines) (λ tick. sound form (n + 1) tick lines))
 
 -- the ticks of what was read rise
-pub rises : (lines : List (List ℕ)) (rows : List LogRow) → rows_from 1 0 lines ≡ Ok rows → Rises 0 rows
-rises lines rows e = let P : Result (List LogRow) LogError → Type 0 = λ r. Sound 0 r in subst P e (sound 1 0 lines)
+pub rises : (form : RowForm) (lines : List (List ℕ)) (rows : List LogRow) → rows_from form 1 0 lines ≡ Ok rows → Rises 0 rows
+rises form lines rows e = let P : Result (List LogRow) LogError → Type 0 = λ r. Sound 0 r in subst P e (sound form 1 0 lines)
 
 -- no line makes the text too large
-pub never-large : (n last : ℕ) (lines : List (List ℕ)) → rows_from n last lines ≡ Err TooLarge → ⊥
-never-large n last lines e = let P : Result (List LogRow) LogError → Type 0 = λ r. Sound last r in subst P e (sound n last lines)
+pub never-large : (form : RowForm) (n last : ℕ) (lines : List (List ℕ)) → rows_from form n last lines ≡ Err TooLarge → ⊥
+never-large form n last lines e = let P : Result (List LogRow) LogError → Type 0 = λ r. Sound last r in subst P e (sound form n last lines)
 
 -- a line that is skipped
-pub skipped : (rows : List LogRow) (n last : ℕ) (line : List ℕ) (lines : List (List ℕ)) → is_skipped line ≡ true
-    → with_rows rows (rows_from n last (line ∷ lines)) ≡ with_rows rows (rows_from (n + 1) last lines)
+pub skipped : (form : RowForm) (rows : List LogRow) (n last : ℕ) (line : List ℕ) (lines : List (List ℕ)) → is_skipped line ≡ true
+    → with_rows rows (rows_from form n last (line ∷ lines)) ≡ with_rows rows (rows_from form (n + 1) last lines)
 unfolding rows_from
-skipped rows n last line lines e = rw e refl
+skipped form rows n last line lines e = rw e refl
 
 -- what a line that is not skipped gives
-row-first : (n last : ℕ) (line : List ℕ) (lines : List (List ℕ)) → is_skipped line ≡ false
-    → rows_from n last (line ∷ lines) ≡ row_then n last (row_of line) (λ tick. rows_from (n + 1) tick lines)
+row-first : (form : RowForm) (n last : ℕ) (line : List ℕ) (lines : List (List ℕ)) → is_skipped line ≡ false
+    → rows_from form n last (line ∷ lines) ≡ row_then n last (row_in form line) (λ tick. rows_from form (n + 1) tick lines)
 unfolding rows_from
-row-first n last line lines e = rw e refl
+row-first form n last line lines e = rw e refl
 
-pub malformed : (n last : ℕ) (line : List ℕ) (lines : List (List ℕ)) → is_skipped line ≡ false → row_of line ≡ None → rows_from n last (line ∷ lines) ≡ Err (Malformed n)
-malformed n last line lines e none = row-first n last line lines e ∙ ap (λ (o : Option LogRow). row_then n last o (λ tick. rows_from (n + 1) tick lines)) none
+pub malformed : (form : RowForm) (n last : ℕ) (line : List ℕ) (lines : List (List ℕ)) → is_skipped line ≡ false → row_in form line ≡ None → rows_from form n last (line ∷ lines) ≡ Err (Malformed n)
+malformed form n last line lines e none = row-first form n last line lines e ∙ ap (λ (o : Option LogRow). row_then n last o (λ tick. rows_from form (n + 1) tick lines)) none
 
-pub out-of-order : (n last : ℕ) (line : List ℕ) (lines : List (List ℕ)) (r : LogRow) → is_skipped line ≡ false → row_of line ≡ Some r → r.tick ≤ last
-    → rows_from n last (line ∷ lines) ≡ Err (TickOrder n)
-out-of-order n last line lines r e some le =
-    row-first n last line lines e ∙ ap (λ (o : Option LogRow). row_then n last o (λ tick. rows_from (n + 1) tick lines)) some ∙ rw (le-ltb last r.tick le) refl
+pub out-of-order : (form : RowForm) (n last : ℕ) (line : List ℕ) (lines : List (List ℕ)) (r : LogRow) → is_skipped line ≡ false → row_in form line ≡ Some r → r.tick ≤ last
+    → rows_from form n last (line ∷ lines) ≡ Err (TickOrder n)
+out-of-order form n last line lines r e some le =
+    row-first form n last line lines e ∙ ap (λ (o : Option LogRow). row_then n last o (λ tick. rows_from form (n + 1) tick lines)) some ∙ rw (le-ltb last r.tick le) refl
 
 with-one : (rows : List LogRow) (r : LogRow) (read : Result (List LogRow) LogError) → with_rows rows (with_rows (r ∷ []) read) ≡ with_rows (rows ++ r ∷ []) read
 with-one rows r (Ok more) = ap (λ (v : List LogRow). Ok v) (sym (append_assoc rows (r ∷ []) more))
 with-one rows r (Err e) = refl
 
-pub taken : (rows : List LogRow) (n last : ℕ) (line : List ℕ) (lines : List (List ℕ)) (r : LogRow) → is_skipped line ≡ false → row_of line ≡ Some r → last < r.tick
-    → with_rows rows (rows_from n last (line ∷ lines)) ≡ with_rows (rows ++ r ∷ []) (rows_from (n + 1) r.tick lines)
-taken rows n last line lines r e some lt =
-    let first : rows_from n last (line ∷ lines) ≡ with_rows (r ∷ []) (rows_from (n + 1) r.tick lines) =
-    row-first n last line lines e ∙ ap (λ (o : Option LogRow). row_then n last o (λ tick. rows_from (n + 1) tick lines)) some ∙ rw (lt-ltb last r.tick lt) refl in
-    ap (with_rows rows) first ∙ with-one rows r (rows_from (n + 1) r.tick lines)
+pub taken : (form : RowForm) (rows : List LogRow) (n last : ℕ) (line : List ℕ) (lines : List (List ℕ)) (r : LogRow) → is_skipped line ≡ false → row_in form line ≡ Some r → last < r.tick
+    → with_rows rows (rows_from form n last (line ∷ lines)) ≡ with_rows (rows ++ r ∷ []) (rows_from form (n + 1) r.tick lines)
+taken form rows n last line lines r e some lt =
+    let first : rows_from form n last (line ∷ lines) ≡ with_rows (r ∷ []) (rows_from form (n + 1) r.tick lines) =
+    row-first form n last line lines e ∙ ap (λ (o : Option LogRow). row_then n last o (λ tick. rows_from form (n + 1) tick lines)) some ∙ rw (lt-ltb last r.tick lt) refl in
+    ap (with_rows rows) first ∙ with-one rows r (rows_from form (n + 1) r.tick lines)
 
 -- what stands at the end of the text
-pub all-read : (rows : List LogRow) (n last : ℕ) → with_rows rows (rows_from n last []) ≡ Ok rows
+pub all-read : (form : RowForm) (rows : List LogRow) (n last : ℕ) → with_rows rows (rows_from form n last []) ≡ Ok rows
 unfolding rows_from
-all-read rows n last = ap (λ (v : List LogRow). Ok v) (append-nil rows)
+all-read form rows n last = ap (λ (v : List LogRow). Ok v) (append-nil rows)
 
-within-limit : (text : List ℕ) → length text ≤ 67108864 → log_of text ≡ rows_from 1 0 (lines_of text)
-within-limit text le = rw (le-ltb 67108864 (length text) le) refl
+within-limit : (form : RowForm) (text : List ℕ) → form ≡ form_of (lines_of text) → length text ≤ 67108864 → log_of text ≡ rows_from form 1 0 (lines_of text)
+within-limit form text formed le = rw (le-ltb 67108864 (length text) le) (ap (λ (f : RowForm). rows_from f 1 0 (lines_of text)) (sym formed))
 
 -- what a fault of a line says of the whole text
-fault-says : (text : List ℕ) (rows : List LogRow) (n last : ℕ) (lines : List (List ℕ)) (e : LogError) → length text ≤ 67108864
-    → with_rows rows (rows_from n last lines) ≡ rows_from 1 0 (lines_of text) → rows_from n last lines ≡ Err e → log_of text ≡ Err e
-fault-says text rows n last lines e le read h = within-limit text le ∙ sym read ∙ ap (with_rows rows) h
+fault-says : (form : RowForm) (text : List ℕ) (rows : List LogRow) (n last : ℕ) (lines : List (List ℕ)) (e : LogError) → form ≡ form_of (lines_of text) → length text ≤ 67108864
+    → with_rows rows (rows_from form n last lines) ≡ rows_from form 1 0 (lines_of text) → rows_from form n last lines ≡ Err e → log_of text ≡ Err e
+fault-says form text rows n last lines e formed le read h = within-limit form text formed le ∙ sym read ∙ ap (with_rows rows) h
 
 -- ## The lines that were read
 
--- they are the first lines of the text, and whatever lines follow give the same after these rows as after them
-pub record IsAfter (text : List ℕ) (rest : List (List ℕ)) (rows : List LogRow) (n last : ℕ) : Type 0 where
+-- they are the first lines of the text, which has this form, and whatever lines follow give the same after these rows as after
+-- them
+pub record IsAfter (form : RowForm) (text : List ℕ) (rest : List (List ℕ)) (rows : List LogRow) (n last : ℕ) : Type 0 where
+  pub formed : form ≡ form_of (lines_of text)
   pub first : List (List ℕ)
   pub all : lines_of text ≡ first ++ rest
-  pub read : (lines : List (List ℕ)) → with_rows rows (rows_from n last lines) ≡ rows_from 1 0 (first ++ lines)
+  pub read : (lines : List (List ℕ)) → with_rows rows (rows_from form n last lines) ≡ rows_from form 1 0 (first ++ lines)
 
 with-none : (read : Result (List LogRow) LogError) → with_rows [] read ≡ read
 with-none (Ok rows) = refl
 with-none (Err e) = refl
 
-pub after-none : (text : List ℕ) (rows : List LogRow) → rows ≡ [] → IsAfter text (lines_of text) rows 1 0
-after-none text rows none = record {
+pub after-none : (form : RowForm) (text : List ℕ) (rows : List LogRow) → form ≡ form_of (lines_of text) → rows ≡ [] → IsAfter form text (lines_of text) rows 1 0
+after-none form text rows formed none = record {
+  formed = formed;
   first = [];
   all = refl;
-  read = λ lines. ap (λ (v : List LogRow). with_rows v (rows_from 1 0 lines)) none ∙ with-none (rows_from 1 0 lines);
+  read = λ lines. ap (λ (v : List LogRow). with_rows v (rows_from form 1 0 lines)) none ∙ with-none (rows_from form 1 0 lines);
 }
 
-pub after-line : (text line : List ℕ) (rest others : List (List ℕ)) (rows new : List LogRow) (n last tick : ℕ) → IsAfter text rest rows n last → rest ≡ line ∷ others → Stepped (Ok tick) rows last n line new
-    → IsAfter text others new (n + 1) tick
-after-line text line rest others rows new n last tick h first s = record {
+pub after-line : (form : RowForm) (text line : List ℕ) (rest others : List (List ℕ)) (rows new : List LogRow) (n last tick : ℕ) → IsAfter form text rest rows n last → rest ≡ line ∷ others → Stepped form (Ok tick) rows last n line new
+    → IsAfter form text others new (n + 1) tick
+after-line form text line rest others rows new n last tick h first s = record {
+  formed = h.formed;
   first = h.first ++ line ∷ [];
   all = h.all ∙ ap (λ (ls : List (List ℕ)). h.first ++ ls) first ∙ sym (append_assoc h.first (line ∷ []) others);
-  read = λ lines. sym (s lines) ∙ h.read (line ∷ lines) ∙ ap (rows_from 1 0) (sym (append_assoc h.first (line ∷ []) lines));
+  read = λ lines. sym (s lines) ∙ h.read (line ∷ lines) ∙ ap (rows_from form 1 0) (sym (append_assoc h.first (line ∷ []) lines));
 }
 
 -- all of the text gives what is left after these rows
-pub after-whole : (text : List ℕ) (rest : List (List ℕ)) (rows : List LogRow) (n last : ℕ) → IsAfter text rest rows n last → with_rows rows (rows_from n last rest) ≡ rows_from 1 0 (lines_of text)
-after-whole text rest rows n last h = h.read rest ∙ ap (rows_from 1 0) (sym h.all)
+pub after-whole : (form : RowForm) (text : List ℕ) (rest : List (List ℕ)) (rows : List LogRow) (n last : ℕ) → IsAfter form text rest rows n last → with_rows rows (rows_from form n last rest) ≡ rows_from form 1 0 (lines_of text)
+after-whole form text rest rows n last h = h.read rest ∙ ap (rows_from form 1 0) (sym h.all)
 
-has-row : (text line : List ℕ) (rest others : List (List ℕ)) (rows new : List LogRow) (n last : ℕ) → IsAfter text rest rows n last → rest ≡ line ∷ others → Stepped (Err Memory) rows last n line new → HasRow text
-has-row text line rest others rows new n last h first s = record {
+has-row : (form : RowForm) (text line : List ℕ) (rest others : List (List ℕ)) (rows new : List LogRow) (n last : ℕ) → IsAfter form text rest rows n last → rest ≡ line ∷ others → Stepped form (Err Memory) rows last n line new → HasRow text
+has-row form text line rest others rows new n last h first s = record {
   first = h.first ++ line ∷ [];
   others = others;
   all = h.all ∙ ap (λ (ls : List (List ℕ)). h.first ++ ls) first ∙ sym (append_assoc h.first (line ∷ []) others);
   rows = rows;
   row = s.0;
-  right = sym (h.read (line ∷ [])) ∙ s.1 [] ∙ all-read (rows ++ s.0 ∷ []) (n + 1) s.0.tick;
+  right = ap (λ (f : RowForm). rows_from f 1 0 (h.first ++ line ∷ [])) (sym h.formed) ∙ sym (h.read (line ∷ [])) ∙ s.1 [] ∙ all-read form (rows ++ s.0 ∷ []) (n + 1) s.0.tick;
 }
 
 -- a line with a fault, or a row without room
-pub faulty : (text line : List ℕ) (rest others : List (List ℕ)) (rows new : List LogRow) (n last : ℕ) (e : LogError) → length text ≤ 67108864
-    → IsAfter text rest rows n last → rest ≡ line ∷ others → Stepped (Err e) rows last n line new → ReadSo (Err e) text new
-faulty text line rest others rows new n last Memory le h first s =
-    (λ large. never-large 1 0 (lines_of text) (sym (within-limit text le) ∙ large), has-row text line rest others rows new n last h first s)
-faulty text line rest others rows new n last TooLarge le h first s = fault-says text rows n last rest TooLarge le (after-whole text rest rows n last h) (rw first (s others))
-faulty text line rest others rows new n last (Malformed m) le h first s = fault-says text rows n last rest (Malformed m) le (after-whole text rest rows n last h) (rw first (s others))
-faulty text line rest others rows new n last (TickOrder m) le h first s = fault-says text rows n last rest (TickOrder m) le (after-whole text rest rows n last h) (rw first (s others))
+pub faulty : (form : RowForm) (text line : List ℕ) (rest others : List (List ℕ)) (rows new : List LogRow) (n last : ℕ) (e : LogError) → length text ≤ 67108864
+    → IsAfter form text rest rows n last → rest ≡ line ∷ others → Stepped form (Err e) rows last n line new → ReadSo (Err e) text new
+faulty form text line rest others rows new n last Memory le h first s =
+    (λ large. never-large form 1 0 (lines_of text) (sym (within-limit form text h.formed le) ∙ large), has-row form text line rest others rows new n last h first s)
+faulty form text line rest others rows new n last TooLarge le h first s = fault-says form text rows n last rest TooLarge h.formed le (after-whole form text rest rows n last h) (rw first (s others))
+faulty form text line rest others rows new n last (Malformed m) le h first s = fault-says form text rows n last rest (Malformed m) h.formed le (after-whole form text rest rows n last h) (rw first (s others))
+faulty form text line rest others rows new n last (TickOrder m) le h first s = fault-says form text rows n last rest (TickOrder m) h.formed le (after-whole form text rest rows n last h) (rw first (s others))
 
 -- of all of it
 pub faulty-gives : (text : List ℕ) (rows : List LogRow) (e : LogError) → ReadSo (Err e) text rows → Gives (Err e) (log_of text)
@@ -157,10 +162,10 @@ wants-row text rows (Malformed m) h is = absurd (cc)
 wants-row text rows (TickOrder m) h is = absurd (cc)
 
 -- the last line
-pub last-read : (text line : List ℕ) (rest : List (List ℕ)) (rows new : List LogRow) (n last tick : ℕ) → length text ≤ 67108864 → IsAfter text rest rows n last → rest ≡ line ∷ [] → Stepped (Ok tick) rows last n line new → log_of text ≡ Ok new
-last-read text line rest rows new n last tick le h only s =
-    within-limit text le ∙ sym (after-whole text rest rows n last h) ∙ ap (λ (ls : List (List ℕ)). with_rows rows (rows_from n last ls)) only ∙ s [] ∙ all-read new (n + 1) tick
+pub last-read : (form : RowForm) (text line : List ℕ) (rest : List (List ℕ)) (rows new : List LogRow) (n last tick : ℕ) → length text ≤ 67108864 → IsAfter form text rest rows n last → rest ≡ line ∷ [] → Stepped form (Ok tick) rows last n line new → log_of text ≡ Ok new
+last-read form text line rest rows new n last tick le h only s =
+    within-limit form text h.formed le ∙ sym (after-whole form text rest rows n last h) ∙ ap (λ (ls : List (List ℕ)). with_rows rows (rows_from form n last ls)) only ∙ s [] ∙ all-read form new (n + 1) tick
 
 -- the rows of a text rise
 pub log-rises : (text : List ℕ) (rows : List LogRow) → length text ≤ 67108864 → log_of text ≡ Ok rows → Rises 0 rows
-log-rises text rows le h = rises (lines_of text) rows (sym (within-limit text le) ∙ h)
+log-rises text rows le h = rises (form_of (lines_of text)) (lines_of text) rows (sym (within-limit (form_of (lines_of text)) text refl le) ∙ h)

@@ -1,17 +1,17 @@
 -- What holds of logs, in words that do not retrace how they are read. Each law here is the contract of a function in
 -- src/laws.rt.
-use Rattle.std.specs.Prelude.{◌≡◌, ◌↔◌, ℕ, ◌+◌, ◌<◌, ◌≤◌, ◌==◌, suc, false, not, List, [], ◌∷◌, ◌++◌, length, map, filter, slice_index, slice_index_or, Some, None, Ok, Err}
+use Rattle.std.specs.Prelude.{◌≡◌, ◌↔◌, ◌⊎◌, ℕ, ◌+◌, ◌<◌, ◌≤◌, ◌==◌, suc, false, not, List, [], ◌∷◌, ◌++◌, length, map, filter, slice_index, slice_index_or, Some, None, Ok, Err}
 use Rattle.tsb_lines.specs.Lines.{lines_of, is_skipped}
 use Rattle.tsb_types.specs.Sets.{names, all_off}
-use Rattle.tsb_log_text.specs.Forms.{form_of, row_in}
-use Rattle.tsb_log_text.specs.ListText.{lists_line, lists_text}
-use Rattle.tsb_log_text.specs.LogText.{AreRows, IsRow, log_text}
+use Rattle.tsb_log_text.specs.Forms.{form_for, form_of, row_in}
+use Rattle.tsb_log_text.specs.ListText.{AreListed, lists_text, text_in}
+use Rattle.tsb_log_text.specs.LogText.{AreRows, log_text}
 use Rattle.tsb_log_text.specs.RowLists.{row_of_lists}
 use Rattle.tsb_log_text.specs.Rows.{list_in_digits, row_of}
 use Rattle.tsb_log_text.specs.Logs.{log_of, row_at, rows_from, Rises}
 use Rattle.tsb_log_text.specs.Places.{tick_at, no_row}
 use Rattle.tsb_log_text.specs.declared.form.RowForm.{RowForm}
-use Rattle.tsb_log_text.specs.declared.form.RowForm.TheVariants.{Digits, Lists}
+use Rattle.tsb_log_text.specs.declared.form.RowForm.TheVariants.{Digits}
 use Rattle.tsb_log_text.specs.declared.log.LogRow.{LogRow}
 use Rattle.tsb_log_text.specs.declared.error.LogError.TheVariants.{Malformed, TickOrder}
 
@@ -70,17 +70,24 @@ TellTheirInputs = (digits : List ℕ) (list k : ℕ) → list_in_digits digits �
 abbrev pub AreTwoForms : Type 0
 AreTwoForms = (line : List ℕ) (one other : LogRow) → row_of line ≡ Some one → row_of_lists line ≡ Some other → ⊥
 
--- a log has one form: a row of the other form is a fault, at its line
+-- a log has one form: all its rows are by digits, or all by lists
 abbrev pub HaveOneForm : Type 0
-HaveOneForm = (text : List ℕ) (rows : List LogRow) (line : List ℕ) (row : LogRow) → log_of text ≡ Ok rows →
-    map row_of (heeded (lines_of text)) ≡ map Some rows ⊎ map row_of_lists (heeded (lines_of text)) ≡ map Some rows
+HaveOneForm = (text : List ℕ) (rows : List LogRow) → log_of text ≡ Ok rows →
+    (map row_of (heeded (lines_of text)) ≡ map Some rows) ⊎ (map row_of_lists (heeded (lines_of text)) ≡ map Some rows)
 
 -- a text whose rows are not of lists is read as version 1 has it: all its lines by digits
 abbrev pub ReadsVersion1 : Type 0
 ReadsVersion1 = (text : List ℕ) → length text ≤ 67108864 → form_of (lines_of text) ≡ Digits →
     log_of text ≡ rows_from Digits 1 0 (lines_of text)
 
--- rows that rise are read back from their text, in either form
-abbrev pub AreReadBack : Type 0
-AreReadBack = (rows : List LogRow) → AreRows rows → Rises 0 rows →
-    (length (log_text rows) ≤ 67108864 → log_of (log_text rows) ≡ Ok rows) × (length (lists_text rows) ≤ 67108864 → log_of (lists_text rows) ≡ Ok rows)
+-- rows that rise are read back from their text by digits, where these have one for each input that is on
+abbrev pub AreReadByDigits : Type 0
+AreReadByDigits = (rows : List LogRow) → AreRows rows → Rises 0 rows → length (log_text rows) ≤ 67108864 → log_of (log_text rows) ≡ Ok rows
+
+-- all that there are from their text by lists
+abbrev pub AreReadByLists : Type 0
+AreReadByLists = (rows : List LogRow) → AreListed rows → Rises 0 rows → length (lists_text rows) ≤ 67108864 → log_of (lists_text rows) ≡ Ok rows
+
+-- and all that there are from their text in the form in which they are written
+abbrev pub AreReadInTheirForm : Type 0
+AreReadInTheirForm = (rows : List LogRow) → AreListed rows → Rises 0 rows → length (text_in (form_for rows) rows) ≤ 67108864 → log_of (text_in (form_for rows) rows) ≡ Ok rows

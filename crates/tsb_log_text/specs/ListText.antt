@@ -1,8 +1,8 @@
 -- The line of a row by lists, as it is written: each run of numbers that are on is one item of its list.
-use Rattle.std.specs.Prelude.{ℕ, zero, suc, ◌+◌, ◌==◌, Bool, List, [], ◌∷◌, ◌++◌, if◌then◌else◌, codes, decimal}
+use Rattle.std.specs.Prelude.{ℕ, zero, suc, ◌+◌, ◌^◌, ◌<◌, ◌≤◌, ◌==◌, Bool, List, [], ◌∷◌, ◌++◌, if◌then◌else◌, codes, decimal}
 use Rattle.tsb_lines.specs.Digits.{seven_digits}
 use Rattle.tsb_types.specs.Sets.{has_detector, has_number}
-use Rattle.tsb_types.specs.declared.limits.TheConstants.{VEHICLE_DETECTORS, PEDESTRIAN_DETECTORS, PREEMPTS}
+use Rattle.tsb_types.specs.declared.limits.TheConstants.{VEHICLE_DETECTORS, PEDESTRIAN_DETECTORS, PREEMPTS, TICKS}
 use Rattle.tsb_log_text.specs.LogText.{log_text, row_line}
 use Rattle.tsb_log_text.specs.declared.form.RowForm.{RowForm}
 use Rattle.tsb_log_text.specs.declared.form.RowForm.TheVariants.{Digits, Lists}
@@ -63,3 +63,16 @@ line_in Lists r = lists_line r
 abbrev pub text_in : RowForm → List LogRow → List ℕ
 text_in Digits rows = log_text rows
 text_in Lists rows = lists_text rows
+
+-- the tick of a row is one of a bench, and its inputs are those that there are
+pub record IsListed (r : LogRow) : Type 0 where
+  pub from_one : 1 ≤ r.tick
+  pub within : r.tick ≤ TICKS
+  pub vehicles : r.row.vehicles.word < 2 ^ VEHICLE_DETECTORS
+  pub pedestrians : r.row.pedestrians.word < 2 ^ PEDESTRIAN_DETECTORS
+  pub preempts : r.row.preempts.word < 2 ^ PREEMPTS
+
+-- all of them are so
+abbrev pub AreListed : List LogRow → Type 0
+AreListed [] = Unit {0}
+AreListed (r ∷ rs) = IsListed r × AreListed rs

@@ -1,5 +1,5 @@
 -- A row of a log by lists (version 2): the line that spells it.
-use Rattle.std.specs.Prelude.{ℕ, ◌-◌, ◌==◌, ◌&&◌, nat_le, nat_lt, List, [], ◌∷◌, ◌++◌, if◌then◌else◌, length, drop, Bool, true, false, Option, Some, None}
+use Rattle.std.specs.Prelude.{ℕ, ◌+◌, ◌-◌, ◌==◌, ◌&&◌, nat_le, nat_lt, List, [], ◌∷◌, ◌++◌, if◌then◌else◌, length, drop, Bool, false, Option, Some, None}
 use Rattle.tsb_lines.specs.Lines.{onto_first}
 use Rattle.tsb_lines.specs.Words.{number_of}
 use Rattle.tsb_types.specs.Lists.{among, run_from}

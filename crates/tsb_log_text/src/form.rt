@@ -1,5 +1,6 @@
 //! The two forms of a log, and the row that a line spells in each.
-ghost use Rattle.std.specs.Prelude.{◌≡◌};
+ghost use Rattle.std.specs.List.{list_any};
+ghost use Rattle.std.specs.Prelude.{◌≡◌, nat_le};
 ghost use Rattle.tsb_lines.specs.Lines.{lines_of};
 ghost use Rattle.tsb_log_text.specs.Forms.{form_of, form_for, inputs_in, is_beyond_digits, row_in};
 
@@ -7,7 +8,7 @@ use crate::list_text::{lists_of, lists_row};
 use crate::log::LogRow;
 use crate::row_text::{inputs_of, row};
 use tsb_lines::{is_skipped, next_line};
-use tsb_types::Row;
+use tsb_types::{DetectorSet, NumberSet, Row};
 
 /// A form of the rows of a log. All rows of a log have one form.
 #[derive(Clone, Copy, PartialEq, Eq)]
@@ -63,17 +64,37 @@ pub fn inputs_in(line: &[u8]) -> Option<Row>
 pub fn is_beyond_digits(row: &Row) -> bool
     ensures { result ≡ is_beyond_digits row.now }
 {
-    row.vehicles.list() >= 1 << 16 || row.pedestrians.list() >= 1 << 8 || row.preempts.list() >= 1 << 4
+    reaches_detectors(row.vehicles) || reaches(row.pedestrians, 256) || reaches(row.preempts, 16)
+}
+
+/// Whether a set has a detector above 16.
+fn reaches_detectors(set: DetectorSet) -> bool
+    ensures { result ≡ nat_le 65536 set.word }
+{
+    set.list() >= 65_536
+}
+
+/// Whether the list of a set is at least so much.
+fn reaches(set: NumberSet, least: u16) -> bool
+    ensures { result ≡ nat_le least set.word }
+{
+    set.list() >= least
 }
 
 /// The form in which a log with these rows is written: digits, where these have one for each input that is on.
 pub fn form_for(rows: &[LogRow]) -> RowForm
     ensures { result ≡ form_for rows.now }
 {
-    for row in rows {
-        if is_beyond_digits(&row.row) {
-            return RowForm::Lists;
-        }
+    if reach_beyond(rows) {
+        RowForm::Lists
+    } else {
+        RowForm::Digits
     }
-    RowForm::Digits
+}
+
+/// Whether a row has an input on for which rows in digits have none.
+fn reach_beyond(rows: &[LogRow]) -> bool
+    ensures { result ≡ list_any (λ r. is_beyond_digits r.row) rows.now }
+{
+    rows.iter().any(|row| is_beyond_digits(&row.row))
 }

@@ -1,5 +1,5 @@
 //! What holds of every log, each law the contract of a function that does nothing.
-ghost use Rattle.tsb_log_text.specs.Laws.{AreInForce, AreMalformedThere, AreOffBefore, AreOutOfOrderThere, AreReadBack, AreTheRows, AreTwoForms, HaveOneForm, ReadsVersion1, TellTheirInputs};
+ghost use Rattle.tsb_log_text.specs.Laws.{AreInForce, AreMalformedThere, AreOffBefore, AreOutOfOrderThere, AreReadByDigits, AreReadByLists, AreReadInTheirForm, AreTheRows, AreTwoForms, HaveOneForm, ReadsVersion1, TellTheirInputs};
 
 /// A text is a log exactly where its lines that are not skipped spell rows whose ticks rise. These are its rows, and a
 /// fault is at the first line that has one.
@@ -42,10 +42,13 @@ pub fn logs_have_one_form()
     ensures version_1 { ReadsVersion1 }
 {}
 
-/// Rows that rise are read back from their text in either form.
+/// Rows that rise are read back from their text: by digits where these have one for each input that is on, by lists all
+/// rows that there are, and so all that there are in the form of `form_for`.
 ///
 /// Mistake: a run of two is written as its first number alone, `short_runs` (`has_2`, `would_lose_2`).
 /// Witness: `by_lists` of Mistakes.
 pub fn rows_are_read_back()
-    ensures { AreReadBack }
+    ensures digits { AreReadByDigits }
+    ensures lists { AreReadByLists }
+    ensures own { AreReadInTheirForm }
 {}

@@ -1,5 +1,5 @@
 //! The line of a row by lists, written.
-ghost use Rattle.std.specs.Prelude.{◌≡◌, ◌≤◌, ◌<◌, ◌++◌, ◌∷◌, [], ℕ};
+ghost use Rattle.std.specs.Prelude.{◌≡◌, ◌≤◌, ◌<◌, ◌-◌, ◌++◌, ◌∷◌, [], ℕ, codes, if◌then◌else◌};
 ghost use Rattle.tsb_lines.specs.ShortLines.{Adds};
 ghost use Rattle.tsb_types.specs.Sets.{names};
 ghost use Rattle.tsb_log_text.specs.ListText.{kind_text, line_in, lists_line, item_text, run_end};
@@ -11,7 +11,7 @@ use tsb_lines::{ShortLine, seven_digits};
 use tsb_types::limits::{PEDESTRIAN_DETECTORS, PREEMPTS, VEHICLE_DETECTORS};
 
 /// The most bytes of the line of a row, with its line feed.
-pub const LISTS_LINE: usize = 180;
+pub const LISTS_LINE: usize = 200;
 
 /// The bytes of the line of a row by lists.
 pub type ListsLine = ShortLine<LISTS_LINE>;
@@ -56,23 +56,36 @@ fn push_kind(line: &mut ListsLine, letter: &[u8; 2], on: u64, most: u8)
     while number <= most {
         if is_on(on, number) {
             let end = end_of_run(on, number, most);
-            line.push(if is_first { letter } else { b"," });
+            push_before(line, letter, is_first);
             push_item(line, number, end);
             is_first = false;
             number = end;
         }
         number += 1;
     }
+    line.push(b"");
+}
+
+/// Adds what stands before an item: a space and a letter before the first one, a comma before others.
+fn push_before(line: &mut ListsLine, letter: &[u8; 2], is_first: bool)
+    ensures { Adds LISTS_LINE line.old (if is_first then letter.now else codes ",") line.new }
+{
+    if is_first {
+        line.push(letter);
+    } else {
+        line.push(b",");
+    }
 }
 
 /// Adds an item: a number, or the first and the last of a run.
 fn push_item(line: &mut ListsLine, first: u8, end: u8)
+    requires { first ≤ end }
     ensures { Adds LISTS_LINE line.old (item_text (first, end)) line.new }
 {
-    line.push_number(u32::from(first));
+    line.push_number(first as u32);
     if first < end {
         line.push(b"-");
-        line.push_number(u32::from(end));
+        line.push_number(end as u32);
     }
 }
 

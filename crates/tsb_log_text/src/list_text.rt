@@ -1,7 +1,7 @@
 //! The line that spells a row by lists, read.
-ghost use Rattle.std.specs.Prelude.{◌≡◌, ◌≤◌, ◌<◌, ℕ, MatchOption, ◌∷◌, [], ◌&&◌, ◌||◌, nat_le};
-ghost use Rattle.tsb_types.specs.Sets.{names};
-ghost use Rattle.tsb_log_text.specs.RowLists.{ends_of_item, lists_of, own_list, parts, plain_number, row_of_lists, list_spelled, words_left};
+ghost use Rattle.std.specs.Prelude.{◌≡◌, ◌≤◌, ◌<◌, ℕ, IfSome, MatchOption, Some, None, option_map, ◌∷◌, [], ◌&&◌, ◌||◌, length, nat_le, ◌^◌, ◌==◌, false};
+ghost use Rattle.tsb_types.specs.Sets.{has_detector};
+ghost use Rattle.tsb_log_text.specs.RowLists.{as_range, as_run, ends_of_item, lists_of, own_list, parts, plain_number, row_of_lists, list_spelled, words_left};
 
 use crate::log::LogRow;
 use crate::row_text::tick;
@@ -55,9 +55,11 @@ pub fn lists_of(text: &[u8]) -> Option<Row>
 /// The numbers, as a list, that the list of a kind spells, which stands first of these words where some are on, and the words behind it.
 /// `None` where it is not a list of numbers from 1 to `most`.
 fn own_list(letter: u8, most: u8, words: Behind<'_>) -> Option<(u64, Behind<'_>)>
-    requires { most ≤ 64 }
-    ensures { MatchOption result (own_list letter most (words_left words) ≡ None)
-        (λ found. own_list letter most (words_left words) ≡ Some (found.0, words_left found.1)) }
+    requires few { most ≤ 64 }
+    requires apart { (letter == 32) ≡ false }
+    ensures read { MatchOption result (own_list letter most (words_left (option_map (λ text. text.now) words.entry)) ≡ None)
+        (λ found. own_list letter most (words_left (option_map (λ text. text.now) words.entry)) ≡ Some (found.0, words_left (option_map (λ text. text.now) found.1))) }
+    ensures few { IfSome result (λ found. found.0 < 2 ^ most) }
 {
     let Some(text) = words else {
         return Some((0, None));
@@ -65,17 +67,18 @@ fn own_list(letter: u8, most: u8, words: Behind<'_>) -> Option<(u64, Behind<'_>)
     if text.is_empty() || text[0] != letter {
         return Some((0, Some(text)));
     }
-    let (word, behind) = cut_at(text, b' ');
-    let on = list_in(&word[1..], most)?;
+    let (list, behind) = cut_at(&text[1..], b' ');
+    let on = list_in(list, most)?;
     Some((on, behind))
 }
 
 /// The numbers, as a list, that a list spells: numbers and ranges of numbers, with a comma between them, from 1 to `most` and rising.
 fn list_in(list: &[u8], most: u8) -> Option<u64>
     requires { most ≤ 64 }
-    ensures { result ≡ list_spelled most list.now }
+    ensures read { result ≡ list_spelled most list.now }
+    ensures few { IfSome result (λ on. on < 2 ^ most) }
 {
-    let mut on = 0;
+    let mut on = DetectorSet::empty();
     let mut last = 0;
     let mut rest = list;
     loop {
@@ -87,7 +90,7 @@ fn list_in(list: &[u8], most: u8) -> Option<u64>
         on = with_run(on, first as u8, end as u8);
         last = end;
         let Some(more) = behind else {
-            return Some(on);
+            return Some(on.list());
         };
         rest = more;
     }
@@ -99,10 +102,36 @@ fn ends_of(item: &[u8]) -> Option<(u32, u32)>
     ensures { result ≡ ends_of_item (parts 45 item.now) }
 {
     let (low, behind) = cut_at(item, b'-');
+    match behind {
+        None => one_number(low),
+        Some(rest) => range_of(low, rest),
+    }
+}
+
+/// The ends of the run of one number.
+fn one_number(digits: &[u8]) -> Option<(u32, u32)>
+    ensures { result ≡ as_run (plain_number digits.now) }
+{
+    let number = plain_number(digits)?;
+    Some((number, number))
+}
+
+/// The ends of a range, with what stands before its hyphen and behind it.
+fn range_of(low: &[u8], rest: &[u8]) -> Option<(u32, u32)>
+    ensures { result ≡ ends_of_item (low.now ∷ parts 45 rest.now) }
+{
+    let (high, more) = cut_at(rest, b'-');
+    match more {
+        None => range(low, high),
+        Some(_more) => None,
+    }
+}
+
+/// The ends of a range, of which the first is less.
+fn range(low: &[u8], high: &[u8]) -> Option<(u32, u32)>
+    ensures { result ≡ as_range (plain_number low.now) (plain_number high.now) }
+{
     let first = plain_number(low)?;
-    let Some(high) = behind else {
-        return Some((first, first));
-    };
     let end = plain_number(high)?;
     if first < end {
         Some((first, end))
@@ -121,16 +150,17 @@ fn plain_number(digits: &[u8]) -> Option<u32>
     number(digits)
 }
 
-/// The list with all numbers from `first` to `end`.
-fn with_run(on: u64, first: u8, end: u8) -> u64
+/// The set with all numbers from `first` to `end`.
+fn with_run(on: DetectorSet, first: u8, end: u8) -> DetectorSet
     requires from_one { 1 ≤ first }
+    requires rises { first ≤ end }
     requires within { end ≤ 64 }
-    ensures { (n : ℕ) → names result n ≡ (names on n || (nat_le first n && nat_le n end)) }
+    ensures { (n : ℕ) → has_detector result n ≡ (has_detector on n || (nat_le first n && nat_le n end)) }
 {
     let mut all = on;
     let mut number = first;
     while number <= end {
-        all |= 1u64 << (number - 1);
+        all = all.with(number, true);
         number += 1;
     }
     all
@@ -138,8 +168,9 @@ fn with_run(on: u64, first: u8, end: u8) -> u64
 
 /// The bytes before the first byte `at`, and those behind it where there is one.
 fn cut_at(bytes: &[u8], at: u8) -> (&[u8], Behind<'_>)
-    ensures { MatchOption result.1 (parts at bytes.now ≡ result.0.now ∷ [])
+    ensures parts { MatchOption result.1 (parts at bytes.now ≡ result.0.now ∷ [])
         (λ rest. parts at bytes.now ≡ result.0.now ∷ parts at rest.now) }
+    ensures shorter { IfSome result.1 (λ rest. length rest.now < length bytes.now) }
 {
     let mut end = 0;
     while end < bytes.len() && bytes[end] != at {

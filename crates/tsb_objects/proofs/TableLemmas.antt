@@ -29,7 +29,10 @@ no-value-behind cells o n behind =
 -- a value over 0 is one that is not 0
 pub is-some : (v : ℕ) → nat_le 1 v ≡ not (v == 0)
 is-some zero = refl
-is-some (suc k) = refl
+is-some (suc k) =
+    let least : nat_le 1 (suc k) ≡ true = grind (arith, nat_tests) in
+    let some : (suc k == 0) ≡ false = grind (arith, nat_tests) in
+    rw (least, some) refl
 
 -- a list of phases names none that is no phase
 named-outside : (list p : ℕ) → list ≤ 65535 → 16 < p → names list p ≡ false

@@ -19,7 +19,7 @@ names-low list (suc i) from within =
     let low : bit_at (list / 256 * 2 ^ 8 + list % 256) i ≡ bit_at (list % 256) i = bit_at_cat_low (list / 256) 8 (list % 256) i (omega arith) in
     ap (λ (b : ℕ). b == 1) (sym low ∙ ap (λ (x : ℕ). bit_at x i) whole)
 
-names-high : (list n : ℕ) → 1 ≤ n → names (list / 256) n ≡ names list (8 + n)
+pub names-high : (list n : ℕ) → 1 ≤ n → names (list / 256) n ≡ names list (8 + n)
 names-high list zero from = absurd (omega arith)
 names-high list (suc i) from =
     let whole : list / 256 * 2 ^ 8 + list % 256 ≡ list = omega arith in

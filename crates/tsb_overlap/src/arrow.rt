@@ -12,9 +12,8 @@ pub(crate) fn turn_of(plan: &Plan, o: Overlap) -> Option<Phase> {
 /// What an arrow is in as tick `now` begins: a yellow that has lasted as that of its phase is over.
 pub(crate) fn run_on(plan: &Plan, part: &Part, now: u32) -> Part {
     match (part.interval, part.phase) {
-        (OverlapInterval::Yellow, Some(phase)) if part.has_lasted(now, plan.yellow_change(phase)) => {
-            Part::standing(OverlapInterval::Red)
-        }
+        (OverlapInterval::Yellow, Some(phase)) if part.has_lasted(now, plan.yellow_change(phase)) =>
+            { Part::standing(OverlapInterval::Red) }
         _ => *part,
     }
 }

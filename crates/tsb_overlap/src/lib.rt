@@ -13,10 +13,9 @@ mod parts;
 mod seen;
 mod trail;
 
-use tsb_objects::limits::OVERLAPS;
-
 pub use overlaps::Overlaps;
 pub use seen::Seen;
+use tsb_objects::limits::OVERLAPS;
 
 /// The cells of overlaps: six lists, and two cells of each overlap.
 pub const CELLS: usize = 6 + 2 * OVERLAPS as usize;

@@ -13,11 +13,9 @@ ghost use Rattle.tsb_overlap.specs.Cells.{IsBy, omitted_in};
 ghost use Rattle.tsb_overlap.specs.Promises.{IsAtPowerUp, IsOmitted, TellsLights, IsRunOn, AreHeld, IsSettled};
 ghost use Rattle.tsb_overlap.specs.Reading.{given_by};
 
-use crate::CELLS;
-use crate::arrow;
 use crate::cells::{FLASHING, GREEN, OMITTED, TRAIL_GREEN, YELLOW};
 use crate::seen::Seen;
-use crate::trail;
+use crate::{CELLS, arrow, trail};
 use arrayvec::ArrayVec;
 use tsb_cells::{Bank, Diff, Reversible};
 use tsb_heads::keeps_green;
@@ -140,14 +138,7 @@ impl Overlaps {
             let o = Overlap::of(number);
             let was = self.part(o);
             let part = if plan.plan().is_arrow(o) {
-                arrow::settled(
-                    plan.plan(),
-                    o,
-                    &was,
-                    seen,
-                    now,
-                    omitted.contains(number),
-                )
+                arrow::settled(plan.plan(), o, &was, seen, now, omitted.contains(number))
             } else {
                 let kept = keeps_green(&seen.intervals, seen.ring_1, seen.ring_2, o, plan);
                 trail::settled(&was, now, kept, seen.is_preempted)

@@ -96,20 +96,20 @@ module _ (now : ℕ) (row : List ℕ) (by : IsBy now row) where
   phases-told : phases_cells now (phase_in now row) ≡ row
   unfolding phase_in row_in
   phases-told =
-      more row 100 (λ p. number_cell (phase_in now row p).running_maximum) _
-      (more row 84 (λ p. timer_cell now (phase_in now row p).red_revert) _
-      (more row 68 (λ p. timer_cell now (phase_in now row p).reduction) _
-      (more row 52 (λ p. timer_cell now (phase_in now row p).conflict) _
-      (more row 36 (λ p. timer_cell now (phase_in now row p).passage) _
-      (more row 20 (λ p. timer_cell now (phase_in now row p).pedestrian_timer) _
-      (more row 4 (λ p. timer_cell now (phase_in now row p).timer) _ lists
-      (column row 4 _ (omega (arith, full)) (omega arith) (λ p from to. rw (is_phase_from p from to) (timer_cell-timer_at now _ (by.each p from to).timer))))
-      (column row 20 _ (omega (arith, full)) (omega arith) (λ p from to. rw (is_phase_from p from to) (timer_cell-timer_at now _ (by.each p from to).pedestrian_timer))))
-      (column row 36 _ (omega (arith, full)) (omega arith) (λ p from to. rw (is_phase_from p from to) (timer_cell-timer_at now _ (by.each p from to).passage))))
-      (column row 52 _ (omega (arith, full)) (omega arith) (λ p from to. rw (is_phase_from p from to) (timer_cell-timer_at now _ (by.each p from to).conflict))))
-      (column row 68 _ (omega (arith, full)) (omega arith) (λ p from to. rw (is_phase_from p from to) (timer_cell-timer_at now _ (by.each p from to).reduction))))
-      (column row 84 _ (omega (arith, full)) (omega arith) (λ p from to. rw (is_phase_from p from to) (timer_cell-timer_at now _ (by.each p from to).red_revert))))
-      (column row 100 _ (omega (arith, full)) (omega arith) (λ p from to. rw (is_phase_from p from to) (number-told _)))
+      more 16 row 100 (λ p. number_cell (phase_in now row p).running_maximum) _
+      (more 16 row 84 (λ p. timer_cell now (phase_in now row p).red_revert) _
+      (more 16 row 68 (λ p. timer_cell now (phase_in now row p).reduction) _
+      (more 16 row 52 (λ p. timer_cell now (phase_in now row p).conflict) _
+      (more 16 row 36 (λ p. timer_cell now (phase_in now row p).passage) _
+      (more 16 row 20 (λ p. timer_cell now (phase_in now row p).pedestrian_timer) _
+      (more 16 row 4 (λ p. timer_cell now (phase_in now row p).timer) _ lists
+      (column 16 row 4 _ (omega (arith, full)) (omega arith) (λ p from to. rw (is_phase_from p from to) (timer_cell-timer_at now _ (by.each p from to).timer))))
+      (column 16 row 20 _ (omega (arith, full)) (omega arith) (λ p from to. rw (is_phase_from p from to) (timer_cell-timer_at now _ (by.each p from to).pedestrian_timer))))
+      (column 16 row 36 _ (omega (arith, full)) (omega arith) (λ p from to. rw (is_phase_from p from to) (timer_cell-timer_at now _ (by.each p from to).passage))))
+      (column 16 row 52 _ (omega (arith, full)) (omega arith) (λ p from to. rw (is_phase_from p from to) (timer_cell-timer_at now _ (by.each p from to).conflict))))
+      (column 16 row 68 _ (omega (arith, full)) (omega arith) (λ p from to. rw (is_phase_from p from to) (timer_cell-timer_at now _ (by.each p from to).reduction))))
+      (column 16 row 84 _ (omega (arith, full)) (omega arith) (λ p from to. rw (is_phase_from p from to) (timer_cell-timer_at now _ (by.each p from to).red_revert))))
+      (column 16 row 100 _ (omega (arith, full)) (omega arith) (λ p from to. rw (is_phase_from p from to) (number-told _)))
       ∙ take-whole row CELLS full
 
 pub rows-told : RowsAreTold

@@ -57,7 +57,14 @@ fn add_entries<'a>(
     ensures { OnOk result (notes.new.items ≡ notes.old.items ++ entries_notes version object (members_view entries.now)) }
 {
     for at in 0..entries.len() {
-        add_entry(alloc, version, object, &entries[at], &entries[at + 1..], notes)?;
+        add_entry(
+            alloc,
+            version,
+            object,
+            &entries[at],
+            &entries[at + 1..],
+            notes,
+        )?;
     }
     Ok(())
 }

@@ -86,7 +86,8 @@ fn add_newer_line(
     notes.extend_from_slice(end)
 }
 
-/// How many indices an object has in a text of this version: where the version has no such object, as many as in the newest.
+/// How many indices an object has in a text of this version: where the version has no such object, as many as in the
+/// newest.
 pub(crate) fn indices_in(version: Option<Version>, object: Object) -> u32
     ensures { result ≡ indices_noted version object }
 {

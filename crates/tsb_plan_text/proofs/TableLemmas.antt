@@ -23,5 +23,5 @@ range_is v o r e =
 
 pub few_indices : (v : Version) (o : Object) → indices_in v o ≤ 256
 few_indices One o = search rules
-few_indices Two o = few-indices o
+few_indices Two o = search rules
 few_indices Three o = few-indices o

@@ -5,7 +5,7 @@ use Rattle.std.proofs.lemmas.Bool.{cases_Bool}
 use Rattle.std.proofs.lemmas.Bool.Decides.{nat_tests}
 use Rattle.tsb_cells.specs.declared.timer.Timer.TheVariants.{Off}
 use Rattle.tsb_cells.specs.Timer.{timer_at, timer_cell, is_on}
-use Rattle.tsb_cells.proofs.TableLemmas.{front-read}
+use Rattle.tsb_cells.proofs.TableLemmas.{front-read, column-read, length-column}
 use Rattle.tsb_cells.proofs.TimerLemmas.{timer_at-timer_cell, timer_cell-le, IsWithin-timer_at, timer_cell-on, timer_cell-off, timer_at-off}
 use Rattle.tsb_types.specs.declared.limits.TheConstants.{PREEMPTS}
 use Rattle.tsb_types.specs.declared.stage.Stage.TheVariants.{Track}
@@ -22,7 +22,7 @@ use Rattle.tsb_preempt.specs.Rows.{serving_of, IsServingBy, IsStored}
 use Rattle.tsb_preempt.specs.Laws.{IsOff, IsServedIn, IsStateBy}
 use Rattle.tsb_preempt.proofs.ResetLemmas.{is_preempt-from}
 use Rattle.tsb_preempt.proofs.ServiceLemmas.{service-stored, IsServiceRow, service-row}
-use Rattle.tsb_preempt.proofs.TableLemmas.{column-read, length-column, rest-read}
+use Rattle.tsb_preempt.proofs.TableLemmas.{rest-read}
 
 -- ## Of what is no preempt
 
@@ -103,40 +103,40 @@ module _ (now : ℕ) (f : Preempts) where
   abbrev lists : List ℕ
   lists = list_of PREEMPTS f.switch ∷ list_of PREEMPTS f.spent ∷ []
 
-  abbrev delays : List ℕ
-  delays = lists ++ map (λ n. timer_cell now (f.delay n)) (run_from 1 PREEMPTS)
+  abbrev timers : List ℕ
+  timers = lists ++ map (λ n. timer_cell now (f.delay n)) (run_from 1 PREEMPTS)
 
-  length-delays : length delays ≡ 2 + PREEMPTS
-  length-delays = length-column PREEMPTS lists (λ n. timer_cell now (f.delay n))
+  length-timers : length timers ≡ 2 + PREEMPTS
+  length-timers = length-column PREEMPTS lists (λ n. timer_cell now (f.delay n))
 
   four-cells : (o : Option Service) → length (service_cells now o) ≡ 4
   four-cells None = refl
   four-cells (Some s) = refl
 
-  stored-in : (o : Option Service) → IsStored (delays ++ service_cells now o) (serving-with now o)
+  stored-in : (o : Option Service) → IsStored (timers ++ service_cells now o) (serving-with now o)
   unfolding serving-with
   stored-in None = record {
-    preempt = rest-read delays (service_cells now None) (2 + PREEMPTS) 0 length-delays;
-    stage = rest-read delays (service_cells now None) (2 + PREEMPTS) 1 length-delays;
-    timer = rest-read delays (service_cells now None) (2 + PREEMPTS) 2 length-delays;
-    stage_timer = rest-read delays (service_cells now None) (2 + PREEMPTS) 3 length-delays;
+    preempt = rest-read timers (service_cells now None) (2 + PREEMPTS) 0 length-timers;
+    stage = rest-read timers (service_cells now None) (2 + PREEMPTS) 1 length-timers;
+    timer = rest-read timers (service_cells now None) (2 + PREEMPTS) 2 length-timers;
+    stage_timer = rest-read timers (service_cells now None) (2 + PREEMPTS) 3 length-timers;
   }
   stored-in (Some s) = record {
-    preempt = rest-read delays (service_cells now (Some s)) (2 + PREEMPTS) 0 length-delays;
-    stage = rest-read delays (service_cells now (Some s)) (2 + PREEMPTS) 1 length-delays;
-    timer = rest-read delays (service_cells now (Some s)) (2 + PREEMPTS) 2 length-delays;
-    stage_timer = rest-read delays (service_cells now (Some s)) (2 + PREEMPTS) 3 length-delays;
+    preempt = rest-read timers (service_cells now (Some s)) (2 + PREEMPTS) 0 length-timers;
+    stage = rest-read timers (service_cells now (Some s)) (2 + PREEMPTS) 1 length-timers;
+    timer = rest-read timers (service_cells now (Some s)) (2 + PREEMPTS) 2 length-timers;
+    stage_timer = rest-read timers (service_cells now (Some s)) (2 + PREEMPTS) 3 length-timers;
   }
 
   table : IsTable now f (preempts_cells now f)
   table = record {
     full =
-        length-append delays (service_cells now f.service)
-        ∙ ap₂ (λ (a b : ℕ). a + b) length-delays (four-cells f.service);
-    switch = front-read delays (service_cells now f.service) 0 (omega (arith, length-delays));
-    spent = front-read delays (service_cells now f.service) 1 (omega (arith, length-delays));
+        length-append timers (service_cells now f.service)
+        ∙ ap₂ (λ (a b : ℕ). a + b) length-timers (four-cells f.service);
+    switch = front-read timers (service_cells now f.service) 0 (omega (arith, length-timers));
+    spent = front-read timers (service_cells now f.service) 1 (omega (arith, length-timers));
     delays = λ n from to.
-        front-read delays (service_cells now f.service) (1 + n) (omega (arith, to, length-delays))
+        front-read timers (service_cells now f.service) (1 + n) (omega (arith, to, length-timers))
         ∙ column-read PREEMPTS 2 lists (λ k. timer_cell now (f.delay k)) n refl (omega arith) from to;
     stored = stored-in f.service;
   }

@@ -4,8 +4,8 @@ use std::alloc::{AllocError, Global};
 /// How many words a page of memory has.
 const PAGE: usize = 512;
 
-/// How many pages of the stack a program writes to at its start, 192 KiB: more than all its calls take together.
-const ROOM: usize = 48;
+/// How many pages of the stack a program writes to at its start, 320 KiB: more than all its calls take together.
+const ROOM: usize = 80;
 
 /// Whether the machine has memory for the stack that a program needs. If so, that stack is written to: a machine that
 /// is short of memory refuses it here, and not in the middle of a run.

@@ -8,7 +8,7 @@ use Rattle.tsb_review.specs.Calls.{has_detector, conflicts, has_conflicts}
 
 -- some vehicle detector that calls p has an extension
 abbrev pub has_extension : Plan → ℕ → Bool
-has_extension plan p = list_any (λ d. is p (call_phase plan d) && nat_lt 0 (detector_extend plan d)) (run_from 1 16)
+has_extension plan p = list_any (λ d. is p (call_phase plan d) && nat_lt 0 (detector_extend plan d)) (run_from 1 plan.counts.vehicle_detectors)
 
 -- p is enabled, has vehicle detectors and no maximum recall, and no detector extends it
 abbrev pub is_unextended : Plan → ℕ → Bool

@@ -9,11 +9,11 @@ use Rattle.tsb_rules.specs.Rules.{has_walk}
 
 -- some vehicle detector calls p
 abbrev pub has_detector : Plan → ℕ → Bool
-has_detector plan p = list_any (λ d. is p (call_phase plan d)) (run_from 1 16)
+has_detector plan p = list_any (λ d. is p (call_phase plan d)) (run_from 1 plan.counts.vehicle_detectors)
 
 -- some button calls the walk of p
 abbrev pub has_button : Plan → ℕ → Bool
-has_button plan p = list_any (λ d. is p (pedestrian_call_phase plan d)) (run_from 1 8)
+has_button plan p = list_any (λ d. is p (pedestrian_call_phase plan d)) (run_from 1 plan.counts.pedestrian_detectors)
 
 -- p is called at all times while a pattern runs, or in free operation: by a recall of its own or of its split mode, for
 -- vehicles or pedestrians, or as a coordinated phase

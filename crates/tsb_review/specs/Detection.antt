@@ -13,7 +13,7 @@ has_diagnosis plan d = nat_lt 0 (no_activity plan d) || (nat_lt 0 (maximum_prese
 
 -- another vehicle detector than d calls p
 abbrev pub has_other_detector : Plan → ℕ → ℕ → Bool
-has_other_detector plan d p = list_any (λ e. not (e == d) && is p (call_phase plan e)) (run_from 1 16)
+has_other_detector plan d p = list_any (λ e. not (e == d) && is p (call_phase plan e)) (run_from 1 plan.counts.vehicle_detectors)
 
 -- of vehicle detectors d alone calls p, which has no recall of its own
 abbrev pub is_only_caller : Plan → ℕ → ℕ → Bool
@@ -43,7 +43,7 @@ trips_in_queue plan d = is_some (call_phase plan d) && is_some (tripping plan d)
 
 -- a vehicle detector without a delay calls p
 abbrev pub has_prompt_detector : Plan → ℕ → Bool
-has_prompt_detector plan p = list_any (λ d. is p (call_phase plan d) && detector_delay plan d == 0) (run_from 1 16)
+has_prompt_detector plan p = list_any (λ d. is p (call_phase plan d) && detector_delay plan d == 0) (run_from 1 plan.counts.vehicle_detectors)
 
 -- p has vehicle detectors, each of them with a delay
 abbrev pub is_called_late : Plan → ℕ → Bool

@@ -1,13 +1,14 @@
 -- The places for which advices are given and at which rules can be broken, each named by its numbers.
 use Rattle.std.specs.Prelude.{ℕ, List, map, flat_map}
+use Rattle.tsb_types.specs.declared.limits.TheConstants.{VEHICLE_DETECTORS, PEDESTRIAN_DETECTORS, OVERLAPS, PREEMPTS}
 use Rattle.tsb_types.specs.Lists.{run_from}
 use Rattle.tsb_review.specs.declared.place.Place.{Place}
 use Rattle.tsb_review.specs.declared.place.Place.TheVariants as at
 use Rattle.tsb_review.specs.declared.place.Shape.{Shape}
 use Rattle.tsb_review.specs.declared.place.Shape.TheVariants as shapes
 
--- how many there are by their first number: one unit, 16 phases, vehicle detectors and patterns, 8 pedestrian detectors,
--- 4 sequences, overlaps and preempts, 2 rings, 32 entries and actions of the schedule, 16 day plans
+-- how many there are by their first number: one unit, 16 phases and patterns, 4 sequences, 2 rings, 32 entries and actions
+-- of the schedule, 16 day plans, and all detectors, overlaps and preempts
 abbrev pub firsts : Shape → ℕ
 firsts shapes.Unit = 1
 firsts shapes.Phase = 16
@@ -16,13 +17,13 @@ firsts shapes.Ring = 2
 firsts shapes.RingSide = 2
 firsts shapes.Listing = 4
 firsts shapes.SequencePhase = 4
-firsts shapes.Detector = 16
-firsts shapes.PedestrianDetector = 8
-firsts shapes.Overlap = 4
-firsts shapes.OverlapPhase = 4
-firsts shapes.Preempt = 4
-firsts shapes.PreemptPhase = 4
-firsts shapes.PreemptPhases = 4
+firsts shapes.Detector = VEHICLE_DETECTORS
+firsts shapes.PedestrianDetector = PEDESTRIAN_DETECTORS
+firsts shapes.Overlap = OVERLAPS
+firsts shapes.OverlapPhase = OVERLAPS
+firsts shapes.Preempt = PREEMPTS
+firsts shapes.PreemptPhase = PREEMPTS
+firsts shapes.PreemptPhases = PREEMPTS
 firsts shapes.Pattern = 16
 firsts shapes.PatternPhase = 16
 firsts shapes.PatternPhases = 16

@@ -21,7 +21,7 @@ fills_track plan m p = is_track_phase plan m p && is_dwell_phase plan m p
 
 -- there is a sign of a railroad: preempt m has a track green, or some preempt has a track phase
 abbrev pub is_by_railroad : Plan → ℕ → Bool
-is_by_railroad plan m = nat_lt 0 (track_green plan m) || list_any (has_track plan) (run_from 1 4)
+is_by_railroad plan m = nat_lt 0 (track_green plan m) || list_any (has_track plan) (run_from 1 plan.counts.preempts)
 
 -- A34: preempt m has no delay and no track phase, by a railroad
 abbrev pub clears_no_track : Plan → ℕ → Bool

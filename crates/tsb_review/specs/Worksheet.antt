@@ -4,7 +4,7 @@ use Rattle.std.specs.Prelude.{ℕ, ◌+◌, ◌==◌, Bool, not, ◌&&◌, if◌
 use Rattle.std.specs.List.{list_all}
 use Rattle.tsb_types.specs.Lists.{run_from}
 use Rattle.tsb_plan.specs.declared.object.Object.TheVariants.{OverlapIncludedPhases}
-use Rattle.tsb_plan.specs.Parts.{chooses_anew, enter_pedestrian_clear, is_used, preempt_minimum_green, preempt_minimum_walk}
+use Rattle.tsb_plan.specs.Parts.{chooses_anew, enter_pedestrian_clear, is_included, is_used, preempt_minimum_green, preempt_minimum_walk, trail_red, trail_yellow, trails}
 use Rattle.tsb_plan.specs.Plan.{Plan, is_enabled, pedestrian_clear, phases, red_clear, red_revert, walk, yellow_change}
 use Rattle.tsb_plan.specs.Running.{is_omitted_now}
 use Rattle.tsb_rules.specs.Rules.{has_walk}
@@ -33,9 +33,18 @@ abbrev pub pedestrians_left : Plan → ℕ → ℕ → ℕ
 pedestrians_left plan n p =
     min (walk plan p) (preempt_minimum_walk plan n) + min (pedestrian_clear plan p) (enter_pedestrian_clear plan n)
 
--- how long p clears, or may not start again: yellow change and red clearance, or a longer red revert
+-- the yellow and red clearance of overlap o's own, where it trails and includes p
+abbrev pub held_by : Plan → ℕ → ℕ → ℕ
+held_by plan p o = if trails plan o && is_included plan o p then trail_yellow plan o + trail_red plan o else 0
+
+-- so long at most hold overlaps that trail p in clearance, once a preempt has ended their trailing greens
+unfoldable pub held : Plan → ℕ → ℕ
+held plan p = greatest_of (held_by plan p) (run_from 1 plan.counts.overlaps)
+
+-- how long p clears, or may not start again: yellow change and red clearance, or a longer red revert, or what longer
+-- overlaps hold it
 abbrev pub clearing : Plan → ℕ → ℕ
-clearing plan p = max (yellow_change plan p + red_clear plan p) (red_revert plan p)
+clearing plan p = max (max (yellow_change plan p + red_clear plan p) (red_revert plan p)) (held plan p)
 
 -- such a time of a phase
 abbrev pub time_of : PhaseTime → Plan → ℕ → ℕ
@@ -63,7 +72,7 @@ includes_none plan o = plan.value OverlapIncludedPhases o == 0
 
 -- no overlap includes one, so none lasts by a commitment
 abbrev pub has_no_overlaps : Plan → Bool
-has_no_overlaps plan = list_all (includes_none plan) (run_from 1 4)
+has_no_overlaps plan = list_all (includes_none plan) (run_from 1 plan.counts.overlaps)
 
 -- THE LONGEST ENTRY of preempt n: so long after its service began, at most, all phases of its first stage are Green. That
 -- are its track phases, or its dwell phases where it has no others

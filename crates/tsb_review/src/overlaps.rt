@@ -3,6 +3,7 @@
 
 ghost use Rattle.std.specs.Prelude.{◌≡◌};
 ghost use Rattle.std.specs.List.{list_any};
+ghost use Rattle.tsb_types.specs.declared.limits.TheConstants.{OVERLAPS};
 ghost use Rattle.tsb_plan.specs.Objects.{indices};
 ghost use Rattle.tsb_plan.specs.Plan.{phases};
 ghost use Rattle.tsb_plan.specs.PlanOf.{plan_of};
@@ -52,11 +53,14 @@ pub(crate) fn split_from(plan: &Plan, overlap: Overlap, phase: Option<Phase>) ->
     }
 }
 
-/// A39: whether the overlap includes phases of both rings that are not concurrent, and does not go on across rings.
+/// A39: whether the overlap includes phases of both rings that are not concurrent, does not go on across rings, and is no
+/// arrow.
 pub(crate) fn is_split(plan: &Plan, overlap: Overlap) -> bool
     ensures { result ≡ is_split (plan_of plan.now) overlap }
 {
-    !plan.overlaps_across_rings(overlap) && split_at(plan, overlap).is_some()
+    !plan.overlaps_across_rings(overlap)
+        && !plan.is_arrow(overlap)
+        && split_at(plan, overlap).is_some()
 }
 
 /// A40: whether the phase is both an included and a modifier phase of the overlap.
@@ -94,7 +98,7 @@ fn is_carried(plan: &Plan, overlap: Overlap) -> bool
 
 /// The value of a list of the overlap.
 fn list_of(plan: &Plan, object: Object, overlap: Overlap) -> u32
-    requires { indices object ≡ 4 }
+    requires { indices object ≡ OVERLAPS }
     ensures { result ≡ (plan_of plan.now).value object overlap }
 {
     plan.at(object, u32::from(overlap.number()))

@@ -3,6 +3,7 @@
 
 ghost use Rattle.std.specs.Prelude.{◌≡◌};
 ghost use Rattle.std.specs.List.{list_any};
+ghost use Rattle.tsb_types.specs.declared.limits.TheConstants.{PREEMPTS};
 ghost use Rattle.tsb_types.specs.Lists.{run_from};
 ghost use Rattle.tsb_plan.specs.PlanOf.{plan_of};
 ghost use Rattle.tsb_review.specs.Preempts.{has_dwell, has_track, fills_track, is_by_railroad, clears_no_track, lasts_too_long, ends_pedestrians, cuts_walk, cuts_clearance, has_preempt_times, is_never_served, is_held_by_input, dwells_beside, dwells_alone};
@@ -35,7 +36,7 @@ pub(crate) fn fills_track(plan: &Plan, preempt: Preempt, phase: Phase) -> bool
 
 /// Whether some preempt has a track phase.
 fn has_some_track(plan: &Plan) -> bool
-    ensures { result ≡ list_any (has_track (plan_of plan.now)) (run_from 1 4) }
+    ensures { result ≡ list_any (has_track (plan_of plan.now)) (run_from 1 PREEMPTS) }
 {
     Preempt::all()
         .iter()

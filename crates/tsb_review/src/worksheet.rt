@@ -7,7 +7,7 @@ ghost use Rattle.tsb_plan.specs.Parts.{is_used};
 ghost use Rattle.tsb_plan.specs.Plan.{is_enabled, red_revert};
 ghost use Rattle.tsb_plan.specs.PlanOf.{plan_of};
 ghost use Rattle.tsb_objects.specs.Instants.{coordinated_in_ring, first_coordinated, force_off, is_coordinated_in, reference};
-ghost use Rattle.tsb_review.specs.Worksheet.{clearing, crossing_of, entry_of, greatest, has_no_overlaps, has_share, includes_none, longest_by_choice, longest_by_turn, longest_entry, pedestrians_left, share, share_of, time_of};
+ghost use Rattle.tsb_review.specs.Worksheet.{clearing, crossing_of, entry_of, greatest, has_no_overlaps, has_share, held, held_by, includes_none, longest_by_choice, longest_by_turn, longest_entry, pedestrians_left, share, share_of, time_of};
 
 use crate::calls::has_walk;
 use crate::pedestrians::pedestrian_time;
@@ -150,12 +150,39 @@ fn pedestrians_left(plan: &Plan, preempt: Preempt, phase: Phase) -> u32
             .min(plan.enter_pedestrian_clear(preempt))
 }
 
-/// How long the phase clears, or may not start again.
+/// How long the phase clears, or may not start again, or is held in clearance by an overlap that trails.
 fn clearing(plan: &Plan, phase: Phase) -> u32
     ensures value { result ≡ clearing (plan_of plan.now) phase }
     ensures range { result ≤ 1310700 }
 {
-    (plan.yellow_change(phase) + plan.red_clear(phase)).max(plan.red_revert(phase))
+    (plan.yellow_change(phase) + plan.red_clear(phase))
+        .max(plan.red_revert(phase))
+        .max(held(plan, phase))
+}
+
+/// How long overlaps that trail hold the phase, at most, once a preempt has ended their trailing greens.
+fn held(plan: &Plan, phase: Phase) -> u32
+    ensures value { result ≡ held (plan_of plan.now) phase }
+    ensures range { result ≤ 510 }
+{
+    let overlaps = Overlap::all();
+    let mut longest = 0;
+    for overlap in &overlaps {
+        longest = held_by(plan, *overlap, phase).max(longest);
+    }
+    longest
+}
+
+/// The yellow and red clearance of the overlap's own, where it trails and includes the phase.
+fn held_by(plan: &Plan, overlap: Overlap, phase: Phase) -> u32
+    ensures value { result ≡ held_by (plan_of plan.now) phase overlap }
+    ensures range { result ≤ 510 }
+{
+    if plan.trails(overlap) && plan.included_phases(overlap).contains(phase) {
+        plan.trail_yellow(overlap) + plan.trail_red(overlap)
+    } else {
+        0
+    }
 }
 
 /// The red revert of the phase.

@@ -1,5 +1,5 @@
 -- The line of a finding or of a breach, and how long it is.
-use Rattle.std.proofs.Common.{◌≡◌, ◌∙◌, ℕ, zero, suc, ◌+◌, ◌*◌, ◌/◌, ◌%◌, ◌<◌, ◌≤◌, ◌==◌, nat_le, Bool, false, true, ◌&&◌, if◌then◌else◌, List, [], ◌∷◌, ◌++◌, append_assoc, length, length-append, drop, drop-cons, get_or, sum_by, flat_map, decimal, codes, Option, Some, None, refl, sym, ap, subst, arith, rules}
+use Rattle.std.proofs.Common.{◌≡◌, ◌∙◌, ℕ, zero, suc, ◌+◌, ◌*◌, ◌/◌, ◌%◌, ◌<◌, ◌≤◌, ◌==◌, nat_le, Bool, false, true, ◌&&◌, if◌then◌else◌, List, [], ◌∷◌, ◌++◌, append_assoc, length, length-append, drop, drop-cons, get_or, sum_by, flat_map, decimal, codes, Option, refl, sym, ap, subst, arith, rules}
 use Rattle.std.proofs.lemmas.Bool.Decides.{nat_tests}
 use Rattle.std.proofs.lemmas.Fmt.{length-decimal-le}
 use Rattle.std.proofs.lemmas.List.Sums.{sum_by-cons}
@@ -21,7 +21,6 @@ use Rattle.tsb_review_text.specs.Lines.{also, filled, fraction, id_name, part, s
 use Rattle.tsb_review_text.specs.BreachTemplates.{breach_template}
 use Rattle.tsb_review_text.specs.Templates.{template, wording}
 use Rattle.tsb_lines.proofs.ShortLemmas.{all-of, onto-fitting, said, then}
-use Rattle.tsb_plan.proofs.NameLemmas.{short-name as short-object}
 
 -- one more of a list is written, of those that are left
 pub part-on : (written : ℕ → List ℕ) (end xs : List ℕ) (k : ℕ) (line new all : List ℕ) → k < length xs → Adds LONGEST line (written (get_or xs k 0)) new →

@@ -1,5 +1,5 @@
 -- Parts of a line of a worksheet.
-use Rattle.std.proofs.Common.{◌≡◌, ℕ, ◌≤◌, List, length, refl, subst}
+use Rattle.std.proofs.Common.{◌≡◌, ℕ, ◌≤◌, List, length, subst}
 use Rattle.tsb_lines.specs.ShortLines.{Adds, AddsShort}
 use Rattle.tsb_review_text.specs.declared.worksheet.TheConstants.{ROW}
 

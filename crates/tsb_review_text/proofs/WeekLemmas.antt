@@ -10,12 +10,12 @@ use Rattle.tsb_lines.specs.Seen.{Seen}
 use Rattle.tsb_lines.specs.Writes.{AppendsFront}
 use Rattle.tsb_types.specs.Calendar.{date_after, date_in, days_before, days_of_years, month_of, month_up_to, year_of}
 use Rattle.tsb_types.specs.declared.calendar.ClockDate.{ClockDate}
-use Rattle.tsb_types.specs.declared.clock_time.TheConstants.{DAY, FIRST_DAY}
+use Rattle.tsb_types.specs.declared.clock_time.TheConstants.{DAY}
 use Rattle.tsb_types.specs.Lists.{run_from}
 use Rattle.tsb_plan.specs.Plan.{Plan}
 use Rattle.tsb_plan.specs.Schedule.{selected_by}
 use Rattle.tsb_plan.specs.Acting.{in_force}
-use Rattle.tsb_review_text.specs.Week.{date_text, day_plan_at, day_text, entry_at, moment_of, number_text, pattern_text, row_at, time_text, two, weekday_name}
+use Rattle.tsb_review_text.specs.Week.{day_plan_at, day_text, entry_at, moment_of, number_text, pattern_text, row_at, time_text, two, weekday_name}
 use Rattle.tsb_review_text.specs.WeekPicture.{title_of}
 use Rattle.tsb_review_text.specs.Written.{Wrote}
 use Rattle.tsb_review_text.proofs.WriteLemmas.{Went}

@@ -1,5 +1,5 @@
 -- What a writer has taken of a review, piece by piece.
-use Rattle.std.proofs.Common.{◌≡◌, ◌∙◌, ℕ, zero, suc, ◌+◌, ◌-◌, ◌<◌, ◌≤◌, Bool, true, false, if◌then◌else◌, List, [], ◌∷◌, ◌++◌, append_assoc, length, drop, get_or, flat_map, refl, sym, ap, arith, subst, OnErr, OnOk, Option, Some, None}
+use Rattle.std.proofs.Common.{◌≡◌, ◌∙◌, ℕ, zero, suc, ◌+◌, ◌-◌, ◌<◌, ◌≤◌, Bool, true, false, if◌then◌else◌, List, [], ◌∷◌, ◌++◌, append_assoc, length, drop, get_or, flat_map, refl, sym, ap, arith, subst, OnErr, OnOk, Some, None}
 use Rattle.std.specs.declared.result.Result.{Result}
 use Rattle.std.specs.declared.result.Result.TheVariants.{Ok, Err}
 use Rattle.std.proofs.lemmas.List.{append-nil, at_drop_all, at_drop_more}
@@ -20,7 +20,7 @@ use Rattle.tsb_review.specs.declared.place.Shape.{Shape}
 use Rattle.tsb_review.specs.Advices.{advices, findings, findings_of, found, holds, shape}
 use Rattle.tsb_review.specs.Places.{firsts, place_of, places, places_beside, places_from, seconds, thirds}
 use Rattle.tsb_review_text.specs.Lines.{breach_line, breaches_text, line_of, review_text}
-use Rattle.tsb_review_text.specs.Written.{Wrote, breach_line_in, line_at, line_in, shape_of, text_at, text_beside, text_from, text_of}
+use Rattle.tsb_review_text.specs.Written.{Wrote, breach_line_in, line_at, line_in, shape_of, text_beside, text_from, text_of}
 use Rattle.tsb_review_text.specs.declared.review.Remark.{Remark}
 use Rattle.tsb_review_text.specs.declared.review.Remark.TheVariants as remarks
 

@@ -1,6 +1,6 @@
 -- What the schedule of a plan runs in a week, as a table: a row for each midnight, and for each minute with which another
 -- action comes into force.
-use Rattle.std.specs.Prelude.{ℕ, zero, ◌+◌, ◌-◌, ◌*◌, ◌/◌, ◌%◌, ◌==◌, nat_lt, Bool, not, ◌||◌, if◌then◌else◌, List, [], ◌∷◌, ◌++◌, codes, flat_map}
+use Rattle.std.specs.Prelude.{ℕ, ◌+◌, ◌-◌, ◌*◌, ◌/◌, ◌%◌, ◌==◌, nat_lt, Bool, not, ◌||◌, if◌then◌else◌, List, [], ◌∷◌, ◌++◌, codes, flat_map}
 use Rattle.tsb_lines.specs.Digits.{digit}
 use Rattle.tsb_types.specs.Calendar.{date_after}
 use Rattle.tsb_types.specs.declared.calendar.ClockDate.{ClockDate}

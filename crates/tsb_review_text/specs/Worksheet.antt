@@ -65,7 +65,7 @@ pattern_text plan n = flat_map (share_text plan n) (run_from 1 16)
 
 -- the lines of preempts
 unfoldable pub preempts_text : Plan → List ℕ
-preempts_text plan = flat_map (preempt_text plan) (run_from 1 4)
+preempts_text plan = flat_map (preempt_text plan) (run_from 1 plan.counts.preempts)
 
 -- those of patterns
 unfoldable pub patterns_text : Plan → List ℕ

@@ -1,7 +1,9 @@
--- Statuses that say the same of phases, vehicle detectors and overlaps 1 to 16, of preempts 1 to 4, of both rings, and in
+-- Statuses that say the same of phases and overlaps 1 to 16, of all vehicle detectors and preempts, of both rings, and in
 -- all else.
 use Rattle.std.specs.Prelude.{◌≡◌, ℕ, ◌≤◌}
+use Rattle.tsb_step.specs.tsb_types.declared.limits.TheConstants.{PREEMPTS}
 use Rattle.tsb_step.specs.tsb_types.Clip.{Agree}
+use Rattle.tsb_step.specs.tsb_detect.Laws.{AgreeOnDetectors}
 use Rattle.tsb_step.specs.tsb_ring.Rings.{Ring}
 use Rattle.tsb_step.specs.Status.{Status}
 
@@ -21,9 +23,9 @@ pub record Alike (x y : Status) : Type 0 where
   pub overlap_reds : Agree x.overlap_reds y.overlap_reds
   pub overlap_yellows : Agree x.overlap_yellows y.overlap_yellows
   pub overlap_greens : Agree x.overlap_greens y.overlap_greens
-  pub active : Agree x.active y.active
-  pub alarms : Agree x.alarms y.alarms
-  pub preempt : (n : ℕ) → 1 ≤ n → n ≤ 4 → x.preempt n ≡ y.preempt n
+  pub active : AgreeOnDetectors x.active y.active
+  pub alarms : AgreeOnDetectors x.alarms y.alarms
+  pub preempt : (n : ℕ) → 1 ≤ n → n ≤ PREEMPTS → x.preempt n ≡ y.preempt n
   pub pattern : x.pattern ≡ y.pattern
   pub free : x.free ≡ y.free
   pub local : x.local ≡ y.local

@@ -1,6 +1,7 @@
 -- Each member of a plan's line is accepted: its name is an object's, its indices are, and its values are in range.
-use Rattle.std.proofs.Common.{◌≡◌, ◌∙◌, ℕ, zero, suc, ◌+◌, ◌<◌, ◌≤◌, ◌==◌, ◌||◌, ◌⊎◌, Bool, true, false, List, [], ◌∷◌, if◌then◌else◌, Some, Result, Ok, codes, decimal, bytes_eq, Ordering, Less, Equal, Greater, nat_cmp, refl, sym, true≢false, ap, subst, arith, inl, inr}
-use Rattle.std.proofs.lemmas.Bool.{cases_Bool, le-leb}
+use Rattle.std.proofs.Common.{◌≡◌, ◌∙◌, ℕ, zero, suc, ◌+◌, ◌<◌, ◌≤◌, ◌==◌, nat_le, ◌&&◌, ◌||◌, ◌⊎◌, Bool, true, false, List, [], ◌∷◌, if◌then◌else◌, Some, Result, Ok, codes, decimal, bytes_eq, Ordering, Less, Equal, Greater, nat_cmp, refl, sym, true≢false, ap, subst, arith, rules, inl, inr}
+use Rattle.std.proofs.lemmas.Bool.{and_from, cases_Bool, le-leb}
+use Rattle.std.proofs.lemmas.Bool.Decides.{nat_tests}
 use Rattle.std.proofs.lemmas.List.Folds.{list_all_at}
 use Rattle.std.proofs.lemmas.Map.Lookups.{exact_bytes}
 use Rattle.std.proofs.lemmas.Slice.Eq.{bytes_eq-Decides}
@@ -10,6 +11,8 @@ use Rattle.std.specs.Cmp.Lexicographic.{slice_cmp}
 use Rattle.std.specs.Ordering.{match_ordering}
 use Rattle.serde_json.specs.Data.{Data, number, unsigned, object, Members, no_members, member, put}
 use Rattle.tsb_objects.specs.tsb_types.Lists.{run_from}
+use Rattle.tsb_objects.proofs.tsb_types.RunLemmas.{all-run_from}
+use Rattle.tsb_objects.proofs.tsb_rules.RuleLemmas.{at-run_from}
 use Rattle.tsb_plan.proofs.NameLemmas.{named_exact}
 use Rattle.tsb_plan.proofs.TableLemmas.{at-order, few-indices, order-below, length-objects}
 use Rattle.tsb_plan.specs.declared.object.Object.{Object}
@@ -19,96 +22,119 @@ use Rattle.tsb_plan.specs.declared.version.Version.TheVariants.{One, Two, Three}
 use Rattle.tsb_plan.specs.Names.{name_of, object_named}
 use Rattle.tsb_plan.specs.Objects.{objects, order, indices, greatest}
 use Rattle.tsb_plan.specs.Plan.{Plan, with_value}
-use Rattle.tsb_plan.specs.Versions.{has_object, indices_in, greatest_in, translated}
+use Rattle.tsb_plan.specs.Versions.{has_object, has_index_in, indices_in, greatest_in, translated}
 use Rattle.tsb_plan_text.proofs.NumberLemmas.{index_found}
 use Rattle.tsb_plan_text.specs.PlanErrors.{Error}
 use Rattle.tsb_plan_text.specs.PlanText.{index_named, whole_number, with_entry, with_table, with_object, is_notes, with_member, with_members}
-use Rattle.tsb_status_text.specs.PlanLine.{is_all_zeros, version_for}
+use Rattle.tsb_status_text.specs.PlanLine.{fits_version_2, is_all_zeros, version_for}
 use Rattle.tsb_status_text.proofs.FoundLemmas.{data_table, not_version, not_notes, plan_members, put_entries, put_entry, put_object, put_objects, version_alone, whole_small}
 use Rattle.tsb_status_text.proofs.JsonLemmas.{AreSmall}
 
--- the plan that a reading gives, with as many phases and sides as one before
+-- the plan that a reading gives, with as many phases, sides, detectors, overlaps and preempts as one before
 pub record Accepted (r : Result Plan Error) (before : Plan) : Type 0 where
   pub plan : Plan
   pub is : r ≡ Ok plan
   pub phases : plan.phase_count ≡ before.phase_count
   pub sides : plan.side_count ≡ before.side_count
+  pub counts : plan.counts ≡ before.counts
 
 -- ## The version
 
--- texts of the version have the indices and values of a plan
+-- texts of the version have the values of a plan, at indices of the plan
 pub record IsAsInPlan (v : Version) : Type 0 where
-  pub indices : (o : Object) → indices_in v o ≡ indices o
+  pub within : (o : Object) → indices_in v o ≤ indices o
   pub values : (o : Object) → greatest_in v o ≡ greatest o
   pub at : (o : Object) (i : ℕ) → translated v o i ≡ i
 
--- and they have each object that the plan gives a value for
+-- and they have each index at which the plan is not 0
 abbrev pub HasAllOf : Version → Plan → Type 0
-HasAllOf v plan = (o : Object) → is_all_zeros plan o ≡ false → has_object v o ≡ true
+HasAllOf v plan = (o : Object) (i : ℕ) → 1 ≤ i → i ≤ indices o → (plan.value o i == 0) ≡ false → has_index_in v o i ≡ true
+
+few-in-two : (o : Object) → indices_in Two o ≤ indices o
+few-in-two o = search rules
 
 as-in-plan : (b : Bool) → IsAsInPlan (if b then Two else Three)
-as-in-plan true = record { indices = λ o. refl; values = λ o. refl; at = λ o i. refl }
-as-in-plan false = record { indices = λ o. refl; values = λ o. refl; at = λ o i. refl }
+as-in-plan true = record { within = few-in-two; values = λ o. refl; at = λ o i. refl }
+as-in-plan false = record { within = λ o. omega arith; values = λ o. refl; at = λ o i. refl }
 
 pub version-as-in-plan : (plan : Plan) → IsAsInPlan (version_for plan)
 unfolding version_for
-version-as-in-plan plan = as-in-plan (list_all (λ o. has_object Two o || is_all_zeros plan o) objects)
+version-as-in-plan plan = as-in-plan (list_all (fits_version_2 plan) objects)
 
-has-all : (plan : Plan) (b : Bool) → list_all (λ o. has_object Two o || is_all_zeros plan o) objects ≡ b → HasAllOf (if b then Two else Three) plan
-has-all plan true all = λ o given. elim (cases_Bool (has_object Two o)) [
-  | inl has ↦ has
-  | inr hasnt ↦
-      let fails : (has_object Two o || is_all_zeros plan o) ≡ false = rw (hasnt, given) refl in
-      absurd (true≢false (sym all ∙ list_all_at (λ p. has_object Two p || is_all_zeros plan p) objects (order o) PhaseEnabled (rw length-objects (order-below o))
-      (ap (λ (p : Object). has_object Two p || is_all_zeros plan p) (at-order o) ∙ fails)))
+all-fit : (plan : Plan) (o : Object) → list_all (fits_version_2 plan) objects ≡ true → fits_version_2 plan o ≡ true
+all-fit plan o all = elim (cases_Bool (fits_version_2 plan o)) [
+  | inl fits ↦ fits
+  | inr fails ↦
+      absurd (true≢false (sym all ∙ list_all_at (fits_version_2 plan) objects (order o) PhaseEnabled (rw length-objects (order-below o))
+      (ap (fits_version_2 plan) (at-order o) ∙ fails)))
 ]
-has-all plan false some = λ o given. refl
+
+has-all : (plan : Plan) (b : Bool) → list_all (fits_version_2 plan) objects ≡ b → HasAllOf (if b then Two else Three) plan
+unfolding fits_version_2
+has-all plan true all = λ o i from to given.
+    let told : (plan.value o i == 0 || has_index_in Two o i) ≡ true =
+    at-run_from (λ k. plan.value o k == 0 || has_index_in Two o k) 1 (indices o) i (all-fit plan o all) from (omega (arith, to)) in
+    grind (arith, told, given)
+has-all plan false some = λ o i from to given. and_from (nat_le 1 i) _ (le-leb 1 i from) (le-leb i (indices o) to)
 
 pub version-has-all : (plan : Plan) → HasAllOf (version_for plan) plan
 unfolding version_for
-version-has-all plan = has-all plan (list_all (λ o. has_object Two o || is_all_zeros plan o) objects) refl
+version-has-all plan = has-all plan (list_all (fits_version_2 plan) objects) refl
+
+-- it has each object that is not all zeros
+has-object : (v : Version) (plan : Plan) → HasAllOf v plan → (o : Object) → is_all_zeros plan o ≡ false → has_object v o ≡ true
+unfolding is_all_zeros
+has-object v plan has o given = elim (cases_Bool (has_object v o)) [
+  | inl is ↦ is
+  | inr hasnt ↦
+      absurd (true≢false (sym (all-run_from (λ i. plan.value o i == 0) 1 (indices o) (λ i from below. elim (cases_Bool (plan.value o i == 0)) [
+        | inl zero_is ↦ zero_is
+        | inr other ↦ absurd (true≢false (sym (has o i from (omega (arith, below)) other) ∙ ap (λ (b : Bool). b && (nat_le 1 i && nat_le i (indices_in v o))) hasnt))
+      ])) ∙ given))
+]
 
 -- ## A table
 
-abbrev IsIndex : Object → List ℕ → Type 0
-IsIndex o text = (i : ℕ) × (1 ≤ i) × (i ≤ indices o) × (decimal i ≡ text)
+abbrev IsIndex : Version → Object → List ℕ → Type 0
+IsIndex v o text = (i : ℕ) × (1 ≤ i) × (i ≤ indices_in v o) × (decimal i ≡ text)
 
 abbrev IsValue : Object → Data → Type 0
 IsValue o d = (n : ℕ) × (whole_number d ≡ Some n) × (n ≤ greatest o)
 
-abbrev IsTable : Object → Members → Type 0
-IsTable o no_members = ⊤
-IsTable o (member text d ms) = IsIndex o text × IsValue o d × IsTable o ms
+abbrev IsTable : Version → Object → Members → Type 0
+IsTable v o no_members = ⊤
+IsTable v o (member text d ms) = IsIndex v o text × IsValue o d × IsTable v o ms
 
-table_put : (o : Object) (k : List ℕ) (d : Data) (ms : Members) → IsIndex o k → IsValue o d → IsTable o ms → IsTable o (put k d ms)
-table_put o k d no_members index value h = (index, value, tt)
-table_put o k d (member l e ms) index value h = go (table_put o k d ms index value h.2) (slice_cmp nat_cmp k l)
+table_put : (v : Version) (o : Object) (k : List ℕ) (d : Data) (ms : Members) → IsIndex v o k → IsValue o d → IsTable v o ms → IsTable v o (put k d ms)
+table_put v o k d no_members index value h = (index, value, tt)
+table_put v o k d (member l e ms) index value h = go (table_put v o k d ms index value h.2) (slice_cmp nat_cmp k l)
   where
-    go : IsTable o (put k d ms) → (r : Ordering) → IsTable o (match_ordering r (member k d (member l e ms)) (member l d ms) (member l e (put k d ms)))
+    go : IsTable v o (put k d ms) → (r : Ordering) → IsTable v o (match_ordering r (member k d (member l e ms)) (member l d ms) (member l e (put k d ms)))
     go later Less = (index, value, h)
     go later Equal = (h.0, value, h.2)
     go later Greater = (h.0, h.1, later)
 
-entry_accepted : (v : Version) → IsAsInPlan v → (o : Object) (text : List ℕ) (d : Data) (p : Plan) → IsIndex o text → IsValue o d → Accepted (with_entry v o text d p) p
+entry_accepted : (v : Version) → IsAsInPlan v → (o : Object) (text : List ℕ) (d : Data) (p : Plan) → IsIndex v o text → IsValue o d → Accepted (with_entry v o text d p) p
 unfolding with_entry
 entry_accepted v whole o text d p index value =
     let i : ℕ = index.0 in
     let n : ℕ = value.0 in
-    let named : index_named (indices o) text ≡ Some i = index_found (indices o) text i index.1 index.3 index.2 (omega (arith, index.2, few-indices o)) in
-    record { plan = with_value p o (translated v o i) n; is = rw (whole.indices o, named, value.1, whole.values o, le-leb n (greatest o) value.2) refl; phases = refl; sides = refl }
+    let named : index_named (indices_in v o) text ≡ Some i =
+    index_found (indices_in v o) text i index.1 index.3 index.2 (omega (arith, index.2, whole.within o, few-indices o)) in
+    record { plan = with_value p o (translated v o i) n; is = rw (named, value.1, whole.values o, le-leb n (greatest o) value.2) refl; phases = refl; sides = refl; counts = refl }
 
-table_accepted : (v : Version) → IsAsInPlan v → (o : Object) (ms : Members) (p : Plan) → IsTable o ms → Accepted (with_table v o ms p) p
-table_accepted v whole o no_members p h = record { plan = p; is = refl; phases = refl; sides = refl }
+table_accepted : (v : Version) → IsAsInPlan v → (o : Object) (ms : Members) (p : Plan) → IsTable v o ms → Accepted (with_table v o ms p) p
+table_accepted v whole o no_members p h = record { plan = p; is = refl; phases = refl; sides = refl; counts = refl }
 table_accepted v whole o (member text d ms) p h =
     let first = entry_accepted v whole o text d p h.0 h.1 in
     let later = table_accepted v whole o ms first.plan h.2 in
-    record { plan = later.plan; is = rw first.is later.is; phases = later.phases ∙ first.phases; sides = later.sides ∙ first.sides }
+    record { plan = later.plan; is = rw first.is later.is; phases = later.phases ∙ first.phases; sides = later.sides ∙ first.sides; counts = later.counts ∙ first.counts }
 
 -- ## Members
 
 abbrev IsMember : Version → List ℕ → Data → Type 0
 IsMember v name d =
-    (name ≡ codes "version") ⊎ ((o : Object) × (table : Members) × (name_of o ≡ name) × (d ≡ object table) × (has_object v o ≡ true) × IsTable o table)
+    (name ≡ codes "version") ⊎ ((o : Object) × (table : Members) × (name_of o ≡ name) × (d ≡ object table) × (has_object v o ≡ true) × IsTable v o table)
 
 abbrev pub AreMembers : Version → Members → Type 0
 AreMembers v no_members = ⊤
@@ -131,20 +157,20 @@ apart_from_notes Three o = not_notes o
 
 member_accepted : (v : Version) → IsAsInPlan v → (name : List ℕ) (d : Data) (p : Plan) → IsMember v name d → Accepted (with_member v name d p) p
 unfolding with_member with_object
-member_accepted v whole name d p (inl version) = record { plan = p; is = rw ((bytes_eq-Decides name (codes "version")).1 version) refl; phases = refl; sides = refl }
+member_accepted v whole name d p (inl version) = record { plan = p; is = rw ((bytes_eq-Decides name (codes "version")).1 version) refl; phases = refl; sides = refl; counts = refl }
 member_accepted v whole name d p (inr (o, table, named, is, has, good)) =
     let other : bytes_eq name (codes "version") ≡ false = ap (λ (t : List ℕ). bytes_eq t (codes "version")) (sym named) ∙ not_version o in
     let found : object_named v name ≡ Some o = (named_exact v name o).1 (record { has = has; name = named }) in
     let apart : is_notes v name ≡ false = ap (is_notes v) (sym named) ∙ apart_from_notes v o in
     let made = table_accepted v whole o table p good in
-    record { plan = made.plan; is = rw (other, apart, found, is) made.is; phases = made.phases; sides = made.sides }
+    record { plan = made.plan; is = rw (other, apart, found, is) made.is; phases = made.phases; sides = made.sides; counts = made.counts }
 
 pub members_accepted : (v : Version) → IsAsInPlan v → (ms : Members) (p : Plan) → AreMembers v ms → Accepted (with_members v ms p) p
-members_accepted v whole no_members p h = record { plan = p; is = refl; phases = refl; sides = refl }
+members_accepted v whole no_members p h = record { plan = p; is = refl; phases = refl; sides = refl; counts = refl }
 members_accepted v whole (member name d ms) p h =
     let first = member_accepted v whole name d p h.0 in
     let later = members_accepted v whole ms first.plan h.1 in
-    record { plan = later.plan; is = rw first.is later.is; phases = later.phases ∙ first.phases; sides = later.sides ∙ first.sides }
+    record { plan = later.plan; is = rw first.is later.is; phases = later.phases ∙ first.phases; sides = later.sides ∙ first.sides; counts = later.counts ∙ first.counts }
 
 -- ## Those of a plan
 
@@ -152,21 +178,23 @@ members_accepted v whole (member name d ms) p h =
 abbrev pub AreRanged : Plan → Type 0
 AreRanged plan = (o : Object) (i : ℕ) → plan.value o i ≤ greatest o
 
-entry_good : (b : Bool) (o : Object) (i v : ℕ) (found : Members) → 1 ≤ i → i ≤ indices o → v ≤ greatest o → v < 65536 → IsTable o found →
-    IsTable o (if b then found else put (decimal i) (number (unsigned v)) found)
-entry_good true o i v found from to ranged small h = h
-entry_good false o i v found from to ranged small h = table_put o (decimal i) (number (unsigned v)) found (i, from, to, refl) (v, whole_small v small, ranged) h
+entry_good : (v : Version) (b : Bool) (o : Object) (i n : ℕ) (found : Members) → 1 ≤ i → (b ≡ false → has_index_in v o i ≡ true) → n ≤ greatest o → n < 65536 → IsTable v o found →
+    IsTable v o (if b then found else put (decimal i) (number (unsigned n)) found)
+entry_good v true o i n found from has ranged small h = h
+entry_good v false o i n found from has ranged small h =
+    let to : i ≤ indices_in v o = grind (arith, nat_tests, has refl) in
+    table_put v o (decimal i) (number (unsigned n)) found (i, from, to, refl) (n, whole_small n small, ranged) h
 
-entries_good : (plan : Plan) → AreSmall plan → AreRanged plan → (o : Object) (a n : ℕ) (found : Members) → 1 ≤ a → a + n ≤ indices o + 1 → IsTable o found →
-    IsTable o (put_entries plan o (run_from a n) found)
+entries_good : (v : Version) (plan : Plan) → HasAllOf v plan → AreSmall plan → AreRanged plan → (o : Object) (a n : ℕ) (found : Members) → 1 ≤ a → a + n ≤ indices o + 1 → IsTable v o found →
+    IsTable v o (put_entries plan o (run_from a n) found)
 unfolding run_from
-entries_good plan small ranged o a zero found from le h = h
-entries_good plan small ranged o a (suc n) found from le h =
-    entries_good plan small ranged o (a + 1) n (put_entry a (plan.value o a) found) (omega arith) (omega (arith, le))
-    (entry_good (plan.value o a == 0) o a (plan.value o a) found from (omega (arith, le)) (ranged o a) (small o a) h)
+entries_good v plan has small ranged o a zero found from le h = h
+entries_good v plan has small ranged o a (suc n) found from le h =
+    entries_good v plan has small ranged o (a + 1) n (put_entry a (plan.value o a) found) (omega arith) (omega (arith, le))
+    (entry_good v (plan.value o a == 0) o a (plan.value o a) found from (has o a from (omega (arith, le))) (ranged o a) (small o a) h)
 
-table_good : (plan : Plan) → AreSmall plan → AreRanged plan → (o : Object) → IsTable o (data_table plan o)
-table_good plan small ranged o = entries_good plan small ranged o 1 (indices o) no_members (omega arith) (omega arith) tt
+table_good : (v : Version) (plan : Plan) → HasAllOf v plan → AreSmall plan → AreRanged plan → (o : Object) → IsTable v o (data_table plan o)
+table_good v plan has small ranged o = entries_good v plan has small ranged o 1 (indices o) no_members (omega arith) (omega arith) tt
 
 object_good : (v : Version) (b : Bool) (k : List ℕ) (d : Data) (found : Members) → (b ≡ false → IsMember v k d) → AreMembers v found →
     AreMembers v (if b then found else put k d found)
@@ -179,7 +207,7 @@ objects_good v plan has small ranged [] found h = h
 objects_good v plan has small ranged (o ∷ os) found h =
     objects_good v plan has small ranged os (put_object plan o found)
     (object_good v (is_all_zeros plan o) (name_of o) (object (data_table plan o)) found
-    (λ given. inr (o, data_table plan o, refl, refl, has o given, table_good plan small ranged o)) h)
+    (λ given. inr (o, data_table plan o, refl, refl, has-object v plan has o given, table_good v plan has small ranged o)) h)
 
 pub plan_good : (plan : Plan) → AreSmall plan → AreRanged plan → AreMembers (version_for plan) (plan_members plan)
 unfolding plan_members

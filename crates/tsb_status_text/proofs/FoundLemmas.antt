@@ -159,7 +159,7 @@ zeros_from value a (suc n) i from below all =
       | inr other ↦ zeros_from value (a + 1) n i (omega (arith, from, other)) (omega (arith, below)) (grind (arith, all))
     ]
 
-pub zero_there : (plan : Plan) (o : Object) (i : ℕ) → 1 ≤ i → i ≤ indices o → is_all_zeros plan o ≡ true → plan.value o i ≡ 0
+zero_there : (plan : Plan) (o : Object) (i : ℕ) → 1 ≤ i → i ≤ indices o → is_all_zeros plan o ≡ true → plan.value o i ≡ 0
 unfolding is_all_zeros
 zero_there plan o i from to all = zeros_from (plan.value o) 1 (indices o) i from (omega (arith, to)) all
 

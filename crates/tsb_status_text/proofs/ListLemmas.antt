@@ -1,8 +1,14 @@
 -- Lists of values, one after another.
-use Rattle.std.proofs.Common.{◌≡◌, ◌∙◌, ℕ, zero, suc, ◌+◌, ◌<◌, ◌≤◌, Bool, true, false, List, [], ◌∷◌, ◌++◌, append_assoc, length, length-append, decimal, subst, nat_lt, inl, inr, refl, sym, ap, arith, Option, Some, None, if◌then◌else◌}
+use Rattle.std.proofs.Common.{◌≡◌, ◌∙◌, ℕ, zero, suc, ◌+◌, ◌-◌, ◌<◌, ◌≤◌, Bool, true, false, List, [], ◌∷◌, ◌++◌, append_assoc, length, length-append, decimal, subst, nat_lt, inl, inr, refl, sym, ap, arith, Option, Some, None, if◌then◌else◌, rules}
 use Rattle.std.proofs.lemmas.Bool.{cases_lt, lt-ltb, le-ltb}
-use Rattle.std.proofs.lemmas.Option.{cond_some}
-use Rattle.tsb_status_text.specs.Json.{more, closed, following, values_from, onto, comma, number_in, numbers}
+use Rattle.std.proofs.lemmas.Option.{cond_some, same_Some}
+use Rattle.std.specs.List.{list_all}
+use Rattle.tsb_step.specs.declared.status.PreemptState.{PreemptState}
+use Rattle.tsb_types.specs.declared.limits.TheConstants.{PREEMPTS, VEHICLE_DETECTORS}
+use Rattle.tsb_types.specs.Lists.{run_from}
+use Rattle.tsb_status_text.specs.Json.{array, more, closed, following, string, values_from, onto, comma, number_in, numbers}
+use Rattle.tsb_status_text.specs.Names.{preempt_name}
+use Rattle.tsb_status_text.specs.StatusText.{is_not_active, preempts_text, state_text}
 use Rattle.tsb_lines.specs.ShortLines.{AddsShort, fitting}
 use Rattle.tsb_lines.proofs.ShortLemmas.{onto-fitting}
 use Rattle.tsb_status_text.specs.declared.line.TheConstants.{LONGEST}
@@ -138,8 +144,8 @@ have-digits set n lt = record { each = λ p v from below is. number-fits set p v
 of-sixteen : room_from digit_room 1 16 ≡ 40
 of-sixteen = refl
 
-of-four : room_from digit_room 1 4 ≡ 9
-of-four = refl
+of-detectors : room_from digit_room 1 VEHICLE_DETECTORS ≡ 184
+of-detectors = refl
 
 -- those of phases and of overlaps
 pub sixteen : {old new : List ℕ} (set : ℕ → Bool) → {most : ℕ} → AddsShort LONGEST most old (numbers set 16) new → AddsShort LONGEST 40 old (numbers set 16) new
@@ -148,11 +154,40 @@ sixteen set adds =
     let short = closed-short (number_in set) digit_room 1 15 93 (have-digits set 16 (omega arith)) in
     record { line = adds.line; short = omega (arith, short, of-sixteen) }
 
-pub four : {old new : List ℕ} (set : ℕ → Bool) → {most : ℕ} → AddsShort LONGEST most old (numbers set 4) new → AddsShort LONGEST 9 old (numbers set 4) new
+-- and those of vehicle detectors
+pub all-detectors : {old new : List ℕ} (set : ℕ → Bool) → {most : ℕ} → AddsShort LONGEST most old (numbers set VEHICLE_DETECTORS) new → AddsShort LONGEST 184 old (numbers set VEHICLE_DETECTORS) new
 unfolding numbers
-four set adds =
-    let short = closed-short (number_in set) digit_room 1 3 93 (have-digits set 4 (omega arith)) in
-    record { line = adds.line; short = omega (arith, short, of-four) }
+all-detectors set adds =
+    let short = closed-short (number_in set) digit_room 1 63 93 (have-digits set VEHICLE_DETECTORS (omega arith)) in
+    record { line = adds.line; short = omega (arith, short, of-detectors) }
+
+-- ## Lists of preempts
+
+name-short : (s : PreemptState) → length (preempt_name s) ≤ 17
+name-short s = search rules
+
+have-states : (preempt : ℕ → PreemptState) (n : ℕ) → HaveRoom (state_text preempt) (λ p. 19) 1 n
+have-states preempt n = record {
+  each = λ p v from below is.
+      let name : List ℕ = preempt_name (preempt p) in
+      subst (λ (ts : List ℕ). length ts ≤ 19) (same_Some (string name) v is)
+      (omega (arith, name-short (preempt p), length-append name (34 ∷ [])));
+}
+
+of-eight : room_from (λ p. 19) 1 PREEMPTS ≡ 161
+of-eight = refl
+
+of-four : room_from (λ p. 19) 1 4 ≡ 81
+of-four = refl
+
+-- the states of the preempts that a line has
+pub states-short : (preempt : ℕ → PreemptState) → length (preempts_text preempt) ≤ 161
+unfolding preempts_text
+states-short preempt = go (list_all (λ n. is_not_active (preempt n)) (run_from 5 (PREEMPTS - 4)))
+  where
+    go : (b : Bool) → length (array (values_from (state_text preempt) 1 (if b then 4 else PREEMPTS))) ≤ 161
+    go true = omega (arith, closed-short (state_text preempt) (λ p. 19) 1 3 93 (have-states preempt 4), of-four)
+    go false = omega (arith, closed-short (state_text preempt) (λ p. 19) 1 7 93 (have-states preempt PREEMPTS), of-eight)
 
 -- ## Lists of waits
 

@@ -1,7 +1,6 @@
 -- The line of a plan is read as that plan.
-use Rattle.std.proofs.Common.{◌≡◌, ◌∙◌, ℕ, ◌≤◌, true, false, List, length, nat_lt, Some, None, option_map, Result, Ok, refl, sym, ap, arith, rules, inl, inr}
-use Rattle.std.proofs.Math.Path.{fun_ext}
-use Rattle.std.proofs.lemmas.Bool.{cases_Bool, false≢true, le-ltb}
+use Rattle.std.proofs.Common.{◌≡◌, ◌∙◌, ℕ, ◌≤◌, ◌==◌, nat_le, true, false, List, length, nat_lt, Some, None, option_map, Result, Ok, refl, sym, ap, arith, inl, inr}
+use Rattle.std.proofs.lemmas.Bool.{and_from, cases_Bool, eqb-true, false≢true, le-leb, le-ltb}
 use Rattle.std.proofs.lemmas.Bool.Decides.{nat_tests}
 use Rattle.std.proofs.lemmas.Option.{same_Some}
 use Rattle.serde_json.specs.Data.{object}
@@ -10,9 +9,9 @@ use Rattle.tsb_objects.specs.tsb_rules.Rules.{first_broken}
 use Rattle.tsb_plan.specs.declared.object.Object.{Object}
 use Rattle.tsb_plan.specs.declared.version.Version.{Version}
 use Rattle.tsb_plan.specs.declared.version.Version.TheVariants.{One, Two, Three}
-use Rattle.tsb_plan.specs.Objects.{has_index, greatest}
+use Rattle.tsb_plan.specs.Objects.{has_index, indices}
 use Rattle.tsb_plan.specs.Plan.{Plan, empty}
-use Rattle.tsb_plan.specs.Versions.{has_object, has_index_in, indices_in, number_of, translated}
+use Rattle.tsb_plan.specs.Versions.{has_index_in, indices_in, number_of}
 use Rattle.tsb_plan.specs.VersionLaws.{TranslateApart}
 use Rattle.tsb_plan_text.proofs.RiseLemmas.{read_all_rise}
 use Rattle.tsb_plan_text.proofs.SaysLemmas.{says_these}
@@ -20,9 +19,9 @@ use Rattle.tsb_plan_text.proofs.TextLemmas.{some_data}
 use Rattle.tsb_plan_text.specs.PlanErrors.{Error}
 use Rattle.tsb_plan_text.specs.PlanText.{limit, data_of, data_plan, checked, reading, version_in, version_numbered}
 use Rattle.tsb_status_text.specs.Laws.{IsWhole, TellPlansApart}
-use Rattle.tsb_status_text.specs.PlanLine.{is_all_zeros, plan_text, version_for}
+use Rattle.tsb_status_text.specs.PlanLine.{plan_text, version_for}
 use Rattle.tsb_status_text.proofs.AcceptLemmas.{IsAsInPlan, members_accepted, plan_good, version-as-in-plan, version-has-all}
-use Rattle.tsb_status_text.proofs.FoundLemmas.{plan_data, plan_members, value_there, version_there, zero_there}
+use Rattle.tsb_status_text.proofs.FoundLemmas.{plan_data, plan_members, value_there, version_there}
 use Rattle.tsb_status_text.proofs.JsonLemmas.{AreSmall, read_text, text_short, text_utf8}
 use Rattle.tsb_status_text.proofs.TextLemmas.{greatest_small}
 
@@ -30,12 +29,13 @@ small : (plan : Plan) → IsWhole plan → AreSmall plan
 small plan whole = λ o i. omega (arith, whole.ranged o i, greatest_small o)
 
 -- plans that say the same are the same
-same_plan : (a b : Plan) → a.phase_count ≡ b.phase_count → a.side_count ≡ b.side_count → ((o : Object) (i : ℕ) → a.value o i ≡ b.value o i) → a ≡ b
-same_plan a b phases sides values =
-    let made : ℕ → ℕ → (Object → ℕ → ℕ) → Plan = λ p s f. record { phase_count = p; side_count = s; value = f } in
-    ap (λ (n : ℕ). made n a.side_count a.value) phases
-    ∙ ap (λ (n : ℕ). made b.phase_count n a.value) sides
-    ∙ ap (made b.phase_count b.side_count) (fun_ext (λ o. fun_ext (λ i. values o i)))
+same_plan : (a b : Plan) → a.phase_count ≡ b.phase_count → a.side_count ≡ b.side_count → a.counts ≡ b.counts → ((o : Object) (i : ℕ) → a.value o i ≡ b.value o i) → a ≡ b
+same_plan a b phases sides counts values = λ i. record {
+  phase_count = phases i;
+  side_count = sides i;
+  counts = counts i;
+  value = λ o k. values o k i;
+}
 
 text_data : (plan : Plan) → IsWhole plan → read (plan_text plan) ≡ Some (object (plan_members plan))
 text_data plan whole = read_text plan (small plan whole) ∙ plan_data plan (small plan whole)
@@ -46,20 +46,20 @@ numbered One = refl
 numbered Two = refl
 numbered Three = refl
 
--- a version that has the object has it at the plan's indices
-at_index : (v : Version) → IsAsInPlan v → (o : Object) (i : ℕ) → has_object v o ≡ true → has_index_in v o i ≡ has_index o i
-at_index v whole o i has = rw (has, whole.indices o) refl
+-- an index that the version has is one of the plan
+in_plan : (v : Version) → IsAsInPlan v → (o : Object) (i : ℕ) → has_index_in v o i ≡ true → has_index o i ≡ true
+in_plan v its o i has =
+    let from : 1 ≤ i = grind (arith, nat_tests, has) in
+    let to : i ≤ indices_in v o = grind (arith, nat_tests, has) in
+    and_from (nat_le 1 i) _ (le-leb 1 i from) (le-leb i (indices o) (omega (arith, to, its.within o)))
 
-at_none : (v : Version) (o : Object) (i : ℕ) → has_object v o ≡ false → has_index_in v o i ≡ false
-at_none v o i hasnt = rw hasnt refl
-
--- an object that the version has not is 0 in the plan
-zero_elsewhere : (plan : Plan) → IsWhole plan → (o : Object) (i : ℕ) → has_object (version_for plan) o ≡ false → plan.value o i ≡ 0
-zero_elsewhere plan whole o i hasnt = elim (cases_Bool (is_all_zeros plan o)) [
-  | inr given ↦ absurd (false≢true (sym hasnt ∙ version-has-all plan o given))
-  | inl zeros ↦ elim (cases_Bool (has_index o i)) [
-    | inl has ↦ zero_there plan o i (grind (arith, nat_tests, has)) (grind (arith, nat_tests, has)) zeros
-    | inr out ↦ whole.elsewhere o i out
+-- at an index that the version has not the plan is 0
+zero_elsewhere : (plan : Plan) → IsWhole plan → (o : Object) (i : ℕ) → has_index_in (version_for plan) o i ≡ false → plan.value o i ≡ 0
+zero_elsewhere plan whole o i hasnt = elim (cases_Bool (has_index o i)) [
+  | inr out ↦ whole.elsewhere o i out
+  | inl has ↦ elim (cases_Bool (plan.value o i == 0)) [
+    | inl zero_is ↦ eqb-true (plan.value o i) 0 zero_is
+    | inr other ↦ absurd (false≢true (sym hasnt ∙ version-has-all plan o i (grind (arith, nat_tests, has)) (grind (arith, nat_tests, has)) other))
   ]
 ]
 
@@ -74,16 +74,14 @@ data_back apart plan whole =
     let made = members_accepted v its ms empty (plan_good plan fits whole.ranged) in
     let rises = read_all_rise (plan_text plan) (object ms) (text_data plan whole) ms refl in
     let says = says_these apart v ms made.plan rises made.is in
-    let values : (o : Object) (i : ℕ) → made.plan.value o i ≡ plan.value o i = λ o i. elim (cases_Bool (has_object v o)) [
-      | inr none ↦ says.elsewhere o i (λ k at same. false≢true (sym (at_none v o k none) ∙ at)) ∙ sym (zero_elsewhere plan whole o i none)
-      | inl here ↦ elim (cases_Bool (has_index o i)) [
-        | inl has ↦ ap (made.plan.value o) (sym (its.at o i)) ∙ says.there o i (at_index v its o i here ∙ has) ∙ value_there plan fits o i has
-        | inr out ↦
-            says.elsewhere o i (λ k at same. false≢true (sym out ∙ ap (has_index o) (sym same ∙ its.at o k) ∙ sym (at_index v its o k here) ∙ at))
-            ∙ sym (whole.elsewhere o i out)
-      ]
+    let values : (o : Object) (i : ℕ) → made.plan.value o i ≡ plan.value o i = λ o i. elim (cases_Bool (has_index_in v o i)) [
+      | inl has ↦ ap (made.plan.value o) (sym (its.at o i)) ∙ says.there o i has ∙ value_there plan fits o i (in_plan v its o i has)
+      | inr none ↦
+          says.elsewhere o i (λ k at same. false≢true (sym none ∙ ap (has_index_in v o) (sym same ∙ its.at o k) ∙ at))
+          ∙ sym (zero_elsewhere plan whole o i none)
     ] in
-    let same : made.plan ≡ plan = same_plan made.plan plan (made.phases ∙ sym whole.phases) (made.sides ∙ sym whole.sides) values in
+    let same : made.plan ≡ plan =
+    same_plan made.plan plan (made.phases ∙ sym whole.phases) (made.sides ∙ sym whole.sides) (made.counts ∙ sym whole.counts) values in
     let version : version_in ms ≡ Some v = rw (version_there plan) (numbered v) in
     rw version (made.is ∙ ap Ok same)
 

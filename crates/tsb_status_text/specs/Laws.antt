@@ -4,18 +4,19 @@ use Rattle.json.specs.Json.{document}
 use Rattle.tsb_objects.specs.tsb_rules.Rules.{first_broken}
 use Rattle.tsb_plan.specs.declared.object.Object.{Object}
 use Rattle.tsb_plan.specs.Objects.{has_index, greatest}
-use Rattle.tsb_plan.specs.Plan.{Plan}
+use Rattle.tsb_plan.specs.Plan.{Plan, all_counts}
 use Rattle.tsb_plan_text.specs.PlanText.{reading}
 use Rattle.tsb_transact.specs.Desk.{Desk}
 use Rattle.tsb_transact.specs.Laws.{IsInRange}
 use Rattle.tsb_status_text.specs.EditsLine.{edits_json, edits_text}
 use Rattle.tsb_status_text.specs.PlanLine.{plan_text}
 
--- a plan as one in memory tells it: of 16 phases and 4 sides, each value in its object's range, and 0 at an index that
--- the object has not
+-- a plan as one in memory tells it: of 16 phases, 4 sides and all detectors, overlaps and preempts, each value in its
+-- object's range, and 0 at an index that the object has not
 pub record IsWhole (plan : Plan) : Type 0 where
   pub phases : plan.phase_count ≡ 16
   pub sides : plan.side_count ≡ 4
+  pub counts : plan.counts ≡ all_counts
   pub ranged : (o : Object) (i : ℕ) → plan.value o i ≤ greatest o
   pub elsewhere : (o : Object) (i : ℕ) → has_index o i ≡ false → plan.value o i ≡ 0
 

@@ -1,9 +1,9 @@
 -- The line of a plan: one plan text, without spaces and without a line feed, of version 2 or, where that has not all its
--- objects and indices, of version 3. `version` comes first, then each object that is not all zeros, in the order of the table of
--- objects, and of each object the indices at which it is not 0, in ascending order. So what differs between two plans is
--- all that differs between their lines.
+-- objects and indices, of version 3. `version` comes first, then each object that is not all zeros, in the order of the
+-- table of objects, and of each object the indices at which it is not 0, in ascending order. So what differs between two
+-- plans is all that differs between their lines.
 use Rattle.std.specs.List.{list_all}
-use Rattle.std.specs.Prelude.{ℕ, ◌+◌, ◌-◌, ◌==◌, Bool, if◌then◌else◌, List, [], ◌∷◌, codes, decimal}
+use Rattle.std.specs.Prelude.{ℕ, ◌==◌, Bool, ◌||◌, if◌then◌else◌, List, [], ◌∷◌, codes, decimal}
 use Rattle.json.specs.Json.{Json, number, object, Members, no_members, member}
 use Rattle.json.specs.Print.{print}
 use Rattle.json.specs.Tree.{json_tokens}
@@ -13,7 +13,7 @@ use Rattle.tsb_plan.specs.declared.version.Version.TheVariants.{Two, Three}
 use Rattle.tsb_plan.specs.Names.{name_of}
 use Rattle.tsb_plan.specs.Objects.{objects, indices}
 use Rattle.tsb_plan.specs.Plan.{Plan}
-use Rattle.tsb_plan.specs.Versions.{has_object, indices_in, number_of}
+use Rattle.tsb_plan.specs.Versions.{has_index_in, number_of}
 use Rattle.tsb_objects.specs.tsb_types.Lists.{run_from}
 
 -- the value at an index before other members, unless it is 0
@@ -42,17 +42,13 @@ abbrev pub members_of : Plan → List Object → Members
 members_of plan [] = no_members
 members_of plan (o ∷ os) = with_object plan o (members_of plan os)
 
--- the first index of an object that version 2 has not
-abbrev pub first_untold : Object → ℕ
-first_untold o = if has_object Two o then indices_in Two o + 1 else 1
+-- version 2 has each index at which the object is not 0
+unfoldable pub fits_version_2 : Plan → Object → Bool
+fits_version_2 plan o = list_all (λ i. plan.value o i == 0 || has_index_in Two o i) (run_from 1 (indices o))
 
--- version 2 tells all of an object: it is 0 at each index that this has not
-unfoldable pub is_told : Plan → Object → Bool
-is_told plan o = list_all (λ i. plan.value o i == 0) (run_from (first_untold o) (indices o + 1 - first_untold o))
-
--- the version that tells all of the plan: version 2, unless an object is not 0 at an index that this has not
+-- the version of the text: version 2, unless an object is not 0 at an index that this has not
 unfoldable pub version_for : Plan → Version
-version_for plan = if list_all (is_told plan) objects then Two else Three
+version_for plan = if list_all (fits_version_2 plan) objects then Two else Three
 
 -- the plan as JSON
 unfoldable pub plan_json : Plan → Json

@@ -3,7 +3,7 @@
 -- none is null, times are in tenths of a second, and numbers of phases, detectors and preempts begin with 1.
 use Rattle.tsb_types.specs.declared.limits.TheConstants.{OVERLAPS, PREEMPTS, VEHICLE_DETECTORS}
 use Rattle.tsb_types.specs.Lists.{run_from}
-use Rattle.std.specs.Prelude.{ℕ, ◌-◌, Bool, true, false, if◌then◌else◌, List, [], ◌∷◌, map, Option, Some, None, option_map, codes, decimal}
+use Rattle.std.specs.Prelude.{ℕ, ◌-◌, Bool, true, false, if◌then◌else◌, List, [], ◌∷◌, Option, Some, None, option_map, codes, decimal}
 use Rattle.std.specs.List.{list_all}
 use Rattle.tsb_step.specs.tsb_ring.Rings.{Ring, Ring1, Ring2}
 use Rattle.tsb_step.specs.declared.status.PreemptState.{PreemptState}
@@ -48,7 +48,7 @@ detectors_text s = object (
     ∷ member (codes "alarms") (numbers s.alarms VEHICLE_DETECTORS)
     ∷ [])
 
--- a preempt that is in no stage, and for which nothing is due
+-- the state of a preempt that is not in service, and has no call
 abbrev pub is_not_active : PreemptState → Bool
 is_not_active preempt_states.NotActive = true
 is_not_active state = false
@@ -57,9 +57,13 @@ is_not_active state = false
 abbrev pub shown_preempts : (ℕ → PreemptState) → ℕ
 shown_preempts preempt = if list_all (λ n. is_not_active (preempt n)) (run_from 5 (PREEMPTS - 4)) then 4 else PREEMPTS
 
+-- the name of a preempt's state
+abbrev pub state_text : (ℕ → PreemptState) → ℕ → Option (List ℕ)
+state_text preempt n = Some (string (preempt_name (preempt n)))
+
 -- preemptState of so many preempts
 unfoldable pub preempts_text : (ℕ → PreemptState) → List ℕ
-preempts_text preempt = array (map (λ n. string (preempt_name (preempt n))) (run_from 1 (shown_preempts preempt)))
+preempts_text preempt = array (values_from (state_text preempt) 1 (shown_preempts preempt))
 
 -- the desk: the station that owns it, and how far its transaction is
 unfoldable pub desk_text : Status → List ℕ

@@ -1,6 +1,7 @@
 //! The line, and its groups of status objects.
-ghost use Rattle.std.specs.Prelude.{◌≡◌, ◌+◌, ◌-◌, ◌++◌, get_or, length};
-ghost use Rattle.tsb_types.specs.Sets.{has_number};
+ghost use Rattle.std.specs.Prelude.{◌≡◌, ◌≤◌, ◌+◌, ◌-◌, ◌++◌, get_or, length};
+ghost use Rattle.tsb_types.specs.Sets.{has_detector, has_number};
+ghost use Rattle.tsb_types.specs.declared.limits.TheConstants.{OVERLAPS, PREEMPTS, VEHICLE_DETECTORS};
 ghost use Rattle.tsb_step.specs.declared.status.PreemptState.TheVariants.{NotActive};
 ghost use Rattle.tsb_status.specs.Plain.{resting, ring_place, ring_status_of, status_of};
 ghost use Rattle.tsb_status_text.specs.Alike.{TellsAllAlike};
@@ -10,7 +11,9 @@ ghost use Rattle.tsb_lines.specs.ShortLines.{AddsShort};
 ghost use Rattle.tsb_status_text.specs.declared.line.TheConstants.{LONGEST};
 ghost use Rattle.tsb_status_text.specs.StatusText.{desk_text, detectors_text, end_text, is_not_active, overlaps_text, phases_text, preempts_text, rings_text, shown_preempts, status_text, waits_text};
 
-use crate::line::{StatusLine, push_byte, push_named, push_detectors_of, push_numbers, push_optional};
+use crate::line::{
+    StatusLine, push_byte, push_detector_numbers, push_named, push_numbers, push_optional, separate,
+};
 use crate::names::{desk_name, flash_name, free_name, preempt_name};
 use crate::rings::push_ring;
 use crate::waits::push_waits;
@@ -80,10 +83,10 @@ fn push_end(line: &mut StatusLine, time: Option<u32>)
 
 /// Adds a set of vehicle detectors to a line, after a name.
 fn push_detector_set(line: &mut StatusLine, name: &[u8], set: DetectorSet)
-    ensures { AddsShort LONGEST (length name.now + length (numbers (has_detector set) VEHICLE_DETECTORS)) line.old (name.now ++ numbers (has_detector set) VEHICLE_DETECTORS) line.new }
+    ensures { AddsShort LONGEST (length name.now + 184) line.old (name.now ++ numbers (has_detector set) VEHICLE_DETECTORS) line.new }
 {
     line.push(name);
-    push_detectors_of(line, set);
+    push_detector_numbers(line, set);
 }
 
 /// Adds a set of phases to a line, after a name.
@@ -102,11 +105,11 @@ fn push_overlap_set(line: &mut StatusLine, name: &[u8], set: NumberSet)
     push_numbers(line, set, OVERLAPS);
 }
 
-/// Adds preemptState of a preempt to a line, after a name.
-fn push_preempt(line: &mut StatusLine, name: &[u8], state: PreemptState)
-    ensures { AddsShort LONGEST (length name.now + 19) line.old (name.now ++ string (preempt_name state)) line.new }
+/// Adds preemptState of a preempt to a line.
+fn push_preempt(line: &mut StatusLine, state: PreemptState)
+    ensures { AddsShort LONGEST 19 line.old (string (preempt_name state)) line.new }
 {
-    push_named(line, name, preempt_name(state));
+    push_named(line, b"", preempt_name(state));
 }
 
 /// Adds phaseStatusGroup to a line.
@@ -152,16 +155,20 @@ fn push_detectors(line: &mut StatusLine, status: &Status)
 fn push_preempts(line: &mut StatusLine, states: &[PreemptState; PREEMPTS as usize])
     ensures { AddsShort LONGEST 161 line.old (preempts_text (λ n. get_or states.now (n - 1) NotActive)) line.new }
 {
-    push_preempt(line, b"[", states[0]);
-    for k in 1..shown_preempts(states) {
-        push_preempt(line, b",", states[k]);
+    line.push(b"[");
+    let mut first = true;
+    for k in 0..shown_preempts(states) {
+        separate(line, first);
+        push_preempt(line, states[k]);
+        first = false;
     }
     line.push(b"]");
 }
 
 /// How many preempts a line has.
 fn shown_preempts(states: &[PreemptState; PREEMPTS as usize]) -> usize
-    ensures { result ≡ shown_preempts (λ n. get_or states.now (n - 1) NotActive) }
+    ensures value { result ≡ shown_preempts (λ n. get_or states.now (n - 1) NotActive) }
+    ensures within { result ≤ PREEMPTS }
 {
     for k in FEW_PREEMPTS..PREEMPTS as usize {
         if !is_not_active(states[k]) {

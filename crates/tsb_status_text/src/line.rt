@@ -1,6 +1,7 @@
 //! Parts that are added to a line: bytes, numbers and sets of numbers.
 ghost use Rattle.std.specs.Prelude.{◌+◌, ◌++◌, ◌≤◌, decimal, length};
-ghost use Rattle.tsb_types.specs.Sets.{has_number};
+ghost use Rattle.tsb_types.specs.Sets.{has_detector, has_number};
+ghost use Rattle.tsb_types.specs.declared.limits.TheConstants.{VEHICLE_DETECTORS};
 ghost use Rattle.tsb_status_text.specs.Json.{comma, numbers, optional, string};
 ghost use Rattle.tsb_lines.specs.ShortLines.{AddsShort};
 ghost use Rattle.tsb_status_text.specs.declared.line.TheConstants.{LONGEST};
@@ -73,7 +74,7 @@ pub(crate) fn push_numbers(line: &mut StatusLine, set: NumberSet, most: u8)
 }
 
 /// Adds to a line the list of the detectors that a set has.
-pub(crate) fn push_detectors_of(line: &mut StatusLine, set: DetectorSet)
+pub(crate) fn push_detector_numbers(line: &mut StatusLine, set: DetectorSet)
     ensures { AddsShort LONGEST (length (numbers (has_detector set) VEHICLE_DETECTORS)) line.old (numbers (has_detector set) VEHICLE_DETECTORS) line.new }
 {
     line.push(b"[");

@@ -1,12 +1,15 @@
 //! The line of a plan.
 ghost use Rattle.std.specs.List.{list_all};
-ghost use Rattle.std.specs.Prelude.{◌≡◌, ◌++◌, IfOk, None, Ok, OnOk};
+ghost use Rattle.std.specs.Prelude.{◌≡◌, ◌==◌, ◌||◌, ◌++◌, true, IfOk, None, Ok, OnOk};
 ghost use Rattle.json.specs.Json.{Members, object};
 ghost use Rattle.json.specs.Tree.{json_tokens, members_tokens};
 ghost use Rattle.tsb_objects.specs.tsb_rules.Rules.{first_broken};
+ghost use Rattle.tsb_plan.specs.declared.version.Version.TheVariants.{Two};
+ghost use Rattle.tsb_plan.specs.Objects.{has_index};
 ghost use Rattle.tsb_plan.specs.PlanOf.{plan_of};
+ghost use Rattle.tsb_plan.specs.Versions.{has_index_in};
 ghost use Rattle.tsb_plan_text.specs.PlanText.{reading};
-ghost use Rattle.tsb_status_text.specs.PlanLine.{first_untold, is_all_zeros, is_told, members_of, plan_text, table, version_for, with_entry, with_object};
+ghost use Rattle.tsb_status_text.specs.PlanLine.{fits_version_2, is_all_zeros, members_of, plan_text, table, version_for, with_entry, with_object};
 
 use crate::laws::lines_are_read_back;
 use itoa::Buffer;
@@ -23,7 +26,6 @@ const VERSION: &str = "version";
 /// `version` comes first, then each object that is not all zeros, in the order of `Object::ALL`, and of each object the
 /// indices at which it is not 0, in ascending order. So two plans are the same exactly where their lines are. An `Err`
 /// says that there is no memory for it.
-
 pub fn plan_line(alloc: Global, plan: &Plan) -> Result<Vec<u8>, AllocError>
     ensures line { IfOk result (λ line. line.items ≡ plan_text (plan_of plan.now)) }
 
@@ -40,44 +42,53 @@ pub fn plan_line(alloc: Global, plan: &Plan) -> Result<Vec<u8>, AllocError>
     Ok(writer.into_inner())
 }
 
-/// The version that tells all of the plan.
+/// The version of the text.
 fn version_for(plan: &Plan) -> Version
     ensures { result ≡ version_for (plan_of plan.now) }
 {
-    if are_told(plan, &Object::ALL) {
+    if all_fit_version_2(plan, &Object::ALL) {
         Version::Two
     } else {
         Version::Three
     }
 }
 
-/// Whether version 2 tells all of each of these objects.
-fn are_told(plan: &Plan, objects: &[Object]) -> bool
-    ensures { result ≡ list_all (is_told (plan_of plan.now)) objects.now }
+/// Whether version 2 has each index at which one of these objects is not 0.
+fn all_fit_version_2(plan: &Plan, objects: &[Object]) -> bool
+    ensures { result ≡ list_all (fits_version_2 (plan_of plan.now)) objects.now }
 {
-    objects.iter().all(|object| is_told(plan, *object))
+    objects.iter().all(|object| fits_version_2(plan, *object))
 }
 
-/// Whether the object is 0 at each index that version 2 has not.
-#[tactic(auto, unfolding(crate::specs::PlanLine::is_told))]
-fn is_told(plan: &Plan, object: Object) -> bool
-    ensures { result ≡ is_told (plan_of plan.now) object }
+/// Whether version 2 has each index at which the object is not 0.
+#[tactic(auto, unfolding(crate::specs::PlanLine::fits_version_2))]
+fn fits_version_2(plan: &Plan, object: Object) -> bool
+    ensures { result ≡ fits_version_2 (plan_of plan.now) object }
 {
-    for index in first_untold(object)..object.indices() + 1 {
-        if plan.at(object, index) != 0 {
+    for index in 1..object.indices() + 1 {
+        if !is_told(plan, object, index) {
             return false;
         }
     }
     true
 }
 
-/// The first index of an object that version 2 has not.
-fn first_untold(object: Object) -> u32
-    ensures { result ≡ first_untold object }
+/// Whether the object is 0 at the index, or version 2 has it there.
+fn is_told(plan: &Plan, object: Object, index: u32) -> bool
+    requires { has_index object index ≡ true }
+    ensures { result ≡ ((plan_of plan.now).value object index == 0 || has_index_in Two object index) }
+{
+    plan.at(object, index) == 0 || is_in_version_2(object, index)
+}
+
+/// Whether version 2 has the object at the index.
+fn is_in_version_2(object: Object, index: u32) -> bool
+    requires { has_index object index ≡ true }
+    ensures { result ≡ has_index_in Two object index }
 {
     match object.range_in(Version::Two) {
-        Some(range) => range.indices + 1,
-        None => 1,
+        Some(range) => index <= range.indices,
+        None => false,
     }
 }
 

@@ -7,7 +7,7 @@ use Rattle.tsb_objects.specs.tsb_plan.Parts.{is_anew}
 use Rattle.tsb_objects.specs.tsb_plan.Plan.{Plan, is_enabled}
 use Rattle.tsb_heads.specs.Overlaps.{is_kept_green, lasts, IsOverlap, some_lasts, overlap_head}
 use Rattle.tsb_heads.specs.Reading.{commitment_of}
-use Rattle.tsb_heads.proofs.LastingLemmas.{kept-left, head-left, none-of-four}
+use Rattle.tsb_heads.proofs.LastingLemmas.{kept-left, head-left, none-lasts}
 use Rattle.tsb_preempt.specs.Preempts as preempts
 use Rattle.tsb_preempt.specs.Service.{Service}
 use Rattle.tsb_ring.specs.GivenUp.{given_up}
@@ -43,26 +43,26 @@ module _ (s : State) (row : Row) where
       (λ c h. committed_by_moves s row Ring1 c h) (λ c h. committed_by_moves s row Ring2 c h)
 
   -- no overlap lasts where something is given up, and so each shows the same
-  pub given_head : gives_up s row ≡ true → (o : ℕ) → IsOverlap o →
+  pub given_head : gives_up s row ≡ true → (o : ℕ) → IsOverlap s.plan o →
       overlap_head s.plan (shown (next s row)) o ≡ overlap_head s.plan (shown (after_moves s row)) o
   given_head h o at =
       head-left s.plan (shown (after_moves s row)) (commitment (next s row)) left o
-      (none-of-four s.plan (shown (after_moves s row)) o (gives_by s row h).1 at)
+      (none-lasts s.plan (shown (after_moves s row)) o (gives_by s row h).1 at)
 
   pub shows_the_same : ShowsTheSame (after_moves s row) (next s row)
   shows_the_same = record { phases = refl; overlap = λ o at. by (gives_up s row) refl o at }
     where
-      by : (b : Bool) → gives_up s row ≡ b → (o : ℕ) → IsOverlap o →
+      by : (b : Bool) → gives_up s row ≡ b → (o : ℕ) → IsOverlap s.plan o →
           overlap_head (next s row).plan (shown (next s row)) o ≡ overlap_head (after_moves s row).plan (shown (after_moves s row)) o
       by true h o at = given_head h o at
       by false h o at = ap (λ (x : State). overlap_head x.plan (shown x) o) (keeps_all s row h)
 
   -- nor does what keeps an overlap green change, and the monitor, which judges last, changes nothing of it
-  kept_given : gives_up s row ≡ true → (o : ℕ) → IsOverlap o →
+  kept_given : gives_up s row ≡ true → (o : ℕ) → IsOverlap s.plan o →
       is_kept_green s.plan (shown (next s row)) o ≡ is_kept_green s.plan (shown (after_moves s row)) o
   kept_given h o at =
       kept-left s.plan (shown (after_moves s row)) (commitment (next s row)) left o
-      (none-of-four s.plan (shown (after_moves s row)) o (gives_by s row h).1 at)
+      (none-lasts s.plan (shown (after_moves s row)) o (gives_by s row h).1 at)
 
   kept_watched : (o : ℕ) → s.trip ≡ None → is_kept_green (step s (Tick row)).plan (shown (step s (Tick row))) o ≡ is_kept_green s.plan (shown (next s row)) o
   unfolding step watched is_kept_green
@@ -76,7 +76,7 @@ module _ (s : State) (row : Row) where
       go true h = absurd (true≢false h)
       go false h = refl
 
-  pub kept_then : (o : ℕ) → s.trip ≡ None → IsOverlap o →
+  pub kept_then : (o : ℕ) → s.trip ≡ None → IsOverlap s.plan o →
       is_kept_green (step s (Tick row)).plan (shown (step s (Tick row))) o ≡ is_kept_green s.plan (shown (after_moves s row)) o
   kept_then o dark at = kept_watched o dark ∙ by (gives_up s row) refl
     where

@@ -6,6 +6,7 @@ use Rattle.tsb_types.specs.declared.lamp.SignalColor.{SignalColor}
 use Rattle.tsb_types.specs.declared.lamp.SignalColor.TheVariants as signals
 use Rattle.tsb_types.specs.declared.lamp.PedestrianColor.{PedestrianColor}
 use Rattle.tsb_types.specs.declared.lamp.PedestrianColor.TheVariants as pedestrians
+use Rattle.tsb_types.specs.declared.limits.TheConstants.{OVERLAPS}
 use Rattle.tsb_heads.specs.declared.monitor.Trip.{Trip}
 use Rattle.tsb_heads.specs.declared.monitor.Trip.TheVariants.{Conflict, GreenToRed}
 use Rattle.tsb_step.specs.State.{Tripped}
@@ -95,7 +96,7 @@ record IsLampBy (e f g : ℕ) : Type 0 where
   kind : e ≤ 3
   unlit : e ≡ 0 → (f ≡ 0) × (g ≡ 0)
   phase : 1 ≤ e → e ≤ 2 → IsUpTo 16 f
-  overlap : e ≡ 3 → IsUpTo 4 f
+  overlap : e ≡ 3 → IsUpTo OVERLAPS f
   color : g ≤ 2
 
 joined : (now a b c d e f g : ℕ) → IsTripBy now a b c d → IsLampBy e f g → IsMonitorBy now (a ∷ b ∷ c ∷ d ∷ e ∷ f ∷ g ∷ [])

@@ -13,7 +13,7 @@ use Rattle.tsb_types.specs.declared.interval.Interval.TheVariants.{Red, Green, Y
 use Rattle.tsb_types.specs.declared.row.Row.{Row}
 use Rattle.tsb_types.specs.declared.stage.Stage.{Stage}
 use Rattle.tsb_types.specs.declared.stage.Stage.TheVariants.{Track, Dwell, Exit}
-use Rattle.tsb_types.proofs.EventLemmas.{none-told}
+use Rattle.tsb_types.proofs.EventLemmas.{none-told, none-told_detectors}
 use Rattle.tsb_types.proofs.NumberLemmas.{filter-none}
 use Rattle.tsb_coord.specs.declared.cycle.CycleState.{CycleState}
 use Rattle.tsb_coord.specs.declared.cycle.CycleState.TheVariants as cycles
@@ -94,8 +94,9 @@ none-between tick minimum gap maximum force_off timing noted zero yields state s
     ++ (none-told tick codes.OVERLAP_GREEN_BEGINS v.overlap_greens i ++ none-told tick codes.OVERLAP_YELLOW_BEGINS v.overlap_yellows i
     ++ none-told tick codes.OVERLAP_RED_BEGINS (λ n. v.overlap_greens n || v.overlap_yellows n) i
     ++ none-told tick codes.OVERLAP_OFF v.overlaps_off i)
-    ++ (none-told tick codes.VEHICLE_OFF (events.vehicles_in noted.form noted.row v) i ++ none-told tick codes.VEHICLE_ON (events.vehicles_in noted.form noted.row v) i)
-    ++ (none-told tick codes.ALARM_GOES v.alarms i ++ none-told tick codes.ALARM_COMES v.alarms i)
+    ++ (none-told_detectors tick codes.VEHICLE_OFF (events.vehicles_in noted.form noted.row v) i
+    ++ none-told_detectors tick codes.VEHICLE_ON (events.vehicles_in noted.form noted.row v) i)
+    ++ (none-told_detectors tick codes.ALARM_GOES v.alarms i ++ none-told_detectors tick codes.ALARM_COMES v.alarms i)
     ++ (none-told tick codes.PEDESTRIAN_OFF (has_number noted.row.pedestrians) i ++ none-told tick codes.PEDESTRIAN_ON (has_number noted.row.pedestrians) i)
     ++ (none-told tick codes.PREEMPT_ON (events.requests noted.row v) i ++ none-told tick codes.PREEMPT_OFF (events.requests noted.row v) i)
     ++ (none-told tick codes.PREEMPT_ENTERS v.preempts i ++ none-told tick codes.TRACK_BEGINS (events.once_green v v.tracks) i

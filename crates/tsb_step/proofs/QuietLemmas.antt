@@ -5,6 +5,7 @@ use Rattle.tsb_cells.specs.declared.timer.Timer.{Timer}
 use Rattle.tsb_cells.specs.Timer.{advanced, timer_cell}
 use Rattle.tsb_cells.proofs.DiffLemmas.{diff-same}
 use Rattle.tsb_cells.proofs.TimerLemmas.{timer_cell-advanced}
+use Rattle.tsb_types.specs.declared.limits.TheConstants.{VEHICLE_DETECTORS, PREEMPTS}
 use Rattle.tsb_types.specs.Lists.{run_from}
 use Rattle.tsb_types.specs.Sets.{list_of}
 use Rattle.tsb_types.proofs.SetLemmas.{same-list_of}
@@ -34,22 +35,22 @@ ran_on now timers n =
 
 -- ## Detectors
 
-in_range : (d : ℕ) → 1 ≤ d → d < 1 + 16 → is_detector d ≡ true
+in_range : (d : ℕ) → 1 ≤ d → d < 1 + VEHICLE_DETECTORS → is_detector d ≡ true
 in_range d from below = grind (arith, nat_tests, from, below)
 
-detector_waits : (f : ℕ → Detector) (d : ℕ) → 1 ≤ d → d < 1 + 16 → detectors_waited f d ≡ detector.as_read (f d)
+detector_waits : (f : ℕ → Detector) (d : ℕ) → 1 ≤ d → d < 1 + VEHICLE_DETECTORS → detectors_waited f d ≡ detector.as_read (f d)
 detector_waits f d from below = rw (in_range d from below) refl
 
 keeps_list : (f : ℕ → Detector) (test : Detector → Bool) → ((x : Detector) → test (detector.as_read x) ≡ test x) →
-    list_of 16 (λ d. test (detectors_waited f d)) ≡ list_of 16 (λ d. test (f d))
+    list_of VEHICLE_DETECTORS (λ d. test (detectors_waited f d)) ≡ list_of VEHICLE_DETECTORS (λ d. test (f d))
 keeps_list f test keeps =
-    same-list_of 16 (λ d. test (detectors_waited f d)) (λ d. test (f d)) (λ d from within.
+    same-list_of VEHICLE_DETECTORS (λ d. test (detectors_waited f d)) (λ d. test (f d)) (λ d from within.
     ap test (detector_waits f d from (omega (arith, within))) ∙ keeps (f d))
 
 keeps_map : (f : ℕ → Detector) (before after : Detector → ℕ) → ((x : Detector) → after (detector.as_read x) ≡ before x) →
-    map (λ d. after (detectors_waited f d)) (run_from 1 16) ≡ map (λ d. before (f d)) (run_from 1 16)
+    map (λ d. after (detectors_waited f d)) (run_from 1 VEHICLE_DETECTORS) ≡ map (λ d. before (f d)) (run_from 1 VEHICLE_DETECTORS)
 keeps_map f before after keeps =
-    map-same (λ d. after (detectors_waited f d)) (λ d. before (f d)) 1 16 (λ d from below.
+    map-same (λ d. after (detectors_waited f d)) (λ d. before (f d)) 1 VEHICLE_DETECTORS (λ d from below.
     ap after (detector_waits f d from below) ∙ keeps (f d))
 
 same_detectors : (now : ℕ) (f : ℕ → Detector) → detectors_cells (now + 1) (detectors_waited f) ≡ detectors_cells now f
@@ -87,7 +88,7 @@ same_service now None = refl
 same_service now (Some x) = rw (timer_cell-advanced now x.timer, timer_cell-advanced now x.stage_timer) refl
 
 same_preempts : (now : ℕ) (f : Preempts) → preempts_cells (now + 1) (preempts.as_read f) ≡ preempts_cells now f
-same_preempts now f = rw (ran_on now f.delay 4, same_service now f.service) refl
+same_preempts now f = rw (ran_on now f.delay PREEMPTS, same_service now f.service) refl
 
 -- ## All of them
 

@@ -12,44 +12,37 @@ use Rattle.tsb_objects.specs.tsb_rules.Consistent.{AreCompatible, IsPreemptSound
 use Rattle.tsb_objects.specs.tsb_rules.Rules.{first_broken}
 use Rattle.tsb_objects.proofs.tsb_rules.ConsistentLemmas.{preempt_sound}
 use Rattle.tsb_objects.proofs.tsb_rules.RuleLemmas.{Passes, some-run_from}
-use Rattle.tsb_preempt.specs.Preempts.{Preempts, Given, has_input, requests, requesting, if_may_begin, may_begin, beginning, going_on, service_by, new_service, is_preempt}
+use Rattle.tsb_preempt.specs.Preempts.{Preempts, Given, has_input, requests, requesting, if_may_begin, may_begin, beginning, going_on, service_by, new_service}
 use Rattle.tsb_preempt.specs.Service.{Service, has_track, has_dwell, has_exit, stage_phases, begun, ends_track, ends_dwell, ends_exit, stage_after, new_stage, with_stage, moved}
 use Rattle.tsb_ring.proofs.WaitLemmas.{cond_is, first-passes}
 use Rattle.tsb_ring.proofs.WantLemmas.{first-among}
-use Rattle.tsb_step.specs.Laws.{has_stage, HasPhases}
+use Rattle.tsb_step.specs.Laws.{is_preempt_of, has_stage, HasPhases}
 use Rattle.tsb_step.specs.Good.{IsInStage}
 
 -- ## Preempts by number
 
--- a number among 1 to 4
-pub is_one_of_four : (n : ℕ) → among n (run_from 1 4) ≡ true → is_preempt n ≡ true
-is_one_of_four n h =
-    let p : Passes (λ q. q == n) 1 4 = some-run_from (λ q. q == n) 1 4 h in
+-- a number among those of preempts
+is_one_of : (plan : Plan) (n : ℕ) → among n (run_from 1 plan.counts.preempts) ≡ true → is_preempt_of plan n ≡ true
+is_one_of plan n h =
+    let most : ℕ = plan.counts.preempts in
+    let p : Passes (λ q. q == n) 1 most = some-run_from (λ q. q == n) 1 most h in
     let same : p.one ≡ n = eqb-true p.one n p.passes in
     let from : 1 ≤ p.one = p.from in
-    let below : p.one < 1 + 4 = p.below in
+    let below : p.one < 1 + most = p.below in
     grind (arith, nat_tests, same, from, below)
 
-record IsOfFour (n : ℕ) : Type 0 where
-  pub from_one : 1 ≤ n
-  pub within : n ≤ 4
-
-of_four : (n : ℕ) → is_preempt n ≡ true → IsOfFour n
-of_four n h = record {
-  from_one = grind (arith, nat_tests, (and_parts (nat_le 1 n) (nat_le n 4) h).0);
-  within = grind (arith, nat_tests, (and_parts (nat_le 1 n) (nat_le n 4) h).1);
-}
-
-pub sound_of_four : (plan : Plan) (n : ℕ) → first_broken plan ≡ None → is_preempt n ≡ true → IsPreemptSound plan n
-sound_of_four plan n rules h = preempt_sound plan rules n (of_four n h).from_one (of_four n h).within
+sound : (plan : Plan) (n : ℕ) → first_broken plan ≡ None → is_preempt_of plan n ≡ true → IsPreemptSound plan n
+sound plan n rules h =
+    let both = and_parts (nat_le 1 n) (nat_le n plan.counts.preempts) h in
+    preempt_sound plan rules n (grind (arith, nat_tests, both.0)) (grind (arith, nat_tests, both.1))
 
 -- a preempt with track phases has dwell phases
-dwells : (plan : Plan) (n : ℕ) → first_broken plan ≡ None → is_preempt n ≡ true → has_track plan n ≡ true → has_dwell plan n ≡ true
+dwells : (plan : Plan) (n : ℕ) → first_broken plan ≡ None → is_preempt_of plan n ≡ true → has_track plan n ≡ true → has_dwell plan n ≡ true
 dwells plan n rules h track =
     elim (cases_Bool (has_dwell plan n)) [
       | inl it ↦ it
       | inr none ↦ (let zero : plan.value PreemptDwellPhase n ≡ 0 = eqb-true (plan.value PreemptDwellPhase n) 0 (turned (plan.value PreemptDwellPhase n == 0) none) in
-          let no_track : plan.value PreemptTrackPhase n ≡ 0 = (sound_of_four plan n rules h).no_track zero in
+          let no_track : plan.value PreemptTrackPhase n ≡ 0 = (sound plan n rules h).no_track zero in
           let off : has_track plan n ≡ false = rw no_track refl in
           absurd (true≢false (sym track ∙ off)))
     ]
@@ -75,7 +68,7 @@ begins_requested plan given w m e = go (requesting plan given w) e
           | inr k ↦ (let bad : None ≡ Some m = k.1 in absurd cc)
         ]
 
-begun_in_stage : (plan : Plan) (m : ℕ) → is_preempt m ≡ true → has_dwell plan m ≡ true → IsInStage plan (begun plan m)
+begun_in_stage : (plan : Plan) (m : ℕ) → is_preempt_of plan m ≡ true → has_dwell plan m ≡ true → IsInStage plan (begun plan m)
 begun_in_stage plan m h dwell = record { preempt = h; some = go (has_track plan m) refl }
   where
     go : (b : Bool) → has_track plan m ≡ b → has_stage plan m (if b then Track else Dwell) ≡ true
@@ -86,13 +79,13 @@ begins_in_stage : (plan : Plan) (given : Given) (w : Preempts) (m : ℕ) → beg
 unfolding requesting
 begins_in_stage plan given w m e =
     let asked : requesting plan given w ≡ Some m = begins_requested plan given w m e in
-    begun_in_stage plan m (is_one_of_four m (first-among (requests plan given w) (run_from 1 4) m asked))
-    (requests_has_dwell plan given w m (first-passes (requests plan given w) (run_from 1 4) m asked))
+    begun_in_stage plan m (is_one_of plan m (first-among (requests plan given w) (run_from 1 plan.counts.preempts) m asked))
+    (requests_has_dwell plan given w m (first-passes (requests plan given w) (run_from 1 plan.counts.preempts) m asked))
 
 -- ## A service that goes on
 
 stage_fits : (plan : Plan) (interval : ℕ → Interval) (input : Bool) (y : Service) (stage next : Stage) → first_broken plan ≡ None →
-    is_preempt y.preempt ≡ true → has_stage plan y.preempt stage ≡ true → stage_after plan interval input y stage ≡ Some next →
+    is_preempt_of plan y.preempt ≡ true → has_stage plan y.preempt stage ≡ true → stage_after plan interval input y stage ≡ Some next →
     has_stage plan y.preempt next ≡ true
 stage_fits plan interval input y Track next rules h some e =
     elim (cond_is (ends_track plan interval y) (Some Dwell) (Some Track) (Some next) e) [
@@ -173,13 +166,13 @@ served_after plan given w rules was x e = go (beginning plan given w) refl e
 pub compatible : (plan : Plan) (x : Service) → first_broken plan ≡ None → IsInStage plan x → AreCompatible plan (stage_phases plan x.preempt x.stage)
 compatible plan x rules h = go x.stage
   where
-    sound : IsPreemptSound plan x.preempt
-    sound = sound_of_four plan x.preempt rules h.preempt
+    lists : IsPreemptSound plan x.preempt
+    lists = sound plan x.preempt rules h.preempt
 
     go : (stage : Stage) → AreCompatible plan (stage_phases plan x.preempt stage)
-    go Track = sound.track
-    go Dwell = sound.dwell
-    go Exit = sound.exit
+    go Track = lists.track
+    go Dwell = lists.dwell
+    go Exit = lists.exit
 
 pub served : (plan : Plan) (x : Service) → first_broken plan ≡ None → IsInStage plan x → HasPhases plan x
 served plan x rules h = record { preempt = h.preempt; some = h.some; compatible = compatible plan x rules h }

@@ -3,14 +3,13 @@
 use Rattle.std.specs.Prelude.{◌≡◌, ℕ, ◌≤◌, List, [], ◌∷◌, Some, None, true}
 use Rattle.tsb_objects.specs.tsb_plan.Plan.{Plan}
 use Rattle.tsb_ring.specs.Laws.{IsSound}
-use Rattle.tsb_preempt.specs.Preempts.{is_preempt}
 use Rattle.tsb_preempt.specs.Service.{Service}
 use Rattle.tsb_transact.specs.declared.desk_state.DeskState.TheVariants.{Done}
 use Rattle.tsb_transact.specs.declared.edit.Edit.{Edit}
 use Rattle.tsb_step.specs.State.{State, interval}
 use Rattle.tsb_step.specs.Tables.{place_refusal}
 use Rattle.tsb_step.specs.Step.{found}
-use Rattle.tsb_step.specs.Laws.{IsConsistent, WalksBesideGreen, has_stage}
+use Rattle.tsb_step.specs.Laws.{IsConsistent, WalksBesideGreen, is_preempt_of, has_stage}
 
 -- each edit is one that the plan takes
 abbrev pub AreFit : Plan → List Edit → Type 0
@@ -22,9 +21,9 @@ pub record IsPatternNumber (n : ℕ) : Type 0 where
   pub from_one : 1 ≤ n
   pub within : n ≤ 16
 
--- the preempt in service is one of the four, and the list of its stage is not empty
+-- the preempt in service is one of the plan's, and the list of its stage is not empty
 pub record IsInStage (plan : Plan) (x : Service) : Type 0 where
-  pub preempt : is_preempt x.preempt ≡ true
+  pub preempt : is_preempt_of plan x.preempt ≡ true
   pub some : has_stage plan x.preempt x.stage ≡ true
 
 -- what holds of the state after every run; the laws of runs are proved from it

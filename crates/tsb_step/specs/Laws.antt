@@ -3,7 +3,7 @@
 -- inputs of any kind, each of which was taken, from power-up with a plan that breaks no rule.
 --
 -- All are proved, each as the contract of a function that does nothing (src/laws.rt).
-use Rattle.std.specs.Prelude.{◌≡◌, ℕ, Bool, true, false, not, ◌&&◌, ◌||◌, List, [], ◌∷◌, Some, None, is_some, ◌⊎◌}
+use Rattle.std.specs.Prelude.{◌≡◌, ℕ, nat_le, Bool, true, false, not, ◌&&◌, ◌||◌, List, [], ◌∷◌, Some, None, is_some, ◌⊎◌}
 use Rattle.tsb_types.specs.declared.interval.PedestrianInterval.TheVariants.{DontWalk}
 use Rattle.tsb_types.specs.declared.row.Row.{Row}
 use Rattle.tsb_types.specs.Intervals.{in_service, is_green}
@@ -17,7 +17,6 @@ use Rattle.tsb_objects.specs.tsb_rules.Rules.{first_broken}
 use Rattle.tsb_ring.specs.declared.ring_order.RingOrder.{RingOrder}
 use Rattle.tsb_ring.specs.Laws.{Agree}
 use Rattle.tsb_ring.specs.Moves.{acted, is_started}
-use Rattle.tsb_preempt.specs.Preempts.{is_preempt}
 use Rattle.tsb_preempt.specs.Service.{Service, has_track, has_dwell, has_exit, stage_phases}
 use Rattle.tsb_types.specs.declared.stage.Stage.{Stage}
 use Rattle.tsb_types.specs.declared.stage.Stage.TheVariants.{Track, Dwell, Exit}
@@ -97,10 +96,14 @@ has_stage plan n Track = has_track plan n
 has_stage plan n Dwell = has_dwell plan n
 has_stage plan n Exit = has_exit plan n
 
--- the preempt in service is one of the four; the list of its stage is not empty, and names enabled phases that are
+-- the plan has a preempt of this number
+abbrev pub is_preempt_of : Plan → ℕ → Bool
+is_preempt_of plan n = nat_le 1 n && nat_le n plan.counts.preempts
+
+-- the preempt in service is one of the plan's; the list of its stage is not empty, and names enabled phases that are
 -- pairwise concurrent
 pub record HasPhases (plan : Plan) (x : Service) : Type 0 where
-  pub preempt : is_preempt x.preempt ≡ true
+  pub preempt : is_preempt_of plan x.preempt ≡ true
   pub some : has_stage plan x.preempt x.stage ≡ true
   pub compatible : AreCompatible plan (stage_phases plan x.preempt x.stage)
 

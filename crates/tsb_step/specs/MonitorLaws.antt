@@ -3,6 +3,7 @@
 use Rattle.std.specs.Prelude.{◌≡◌, ℕ, ◌≤◌, List, length, slice_index, Option, Some, None}
 use Rattle.tsb_types.specs.declared.lamp.Lamp.{Lamp}
 use Rattle.tsb_types.specs.declared.lamp.Lamp.TheVariants as lamps
+use Rattle.tsb_types.specs.declared.limits.TheConstants.{OVERLAPS}
 use Rattle.tsb_heads.specs.declared.monitor.Trip.{Trip}
 use Rattle.tsb_heads.specs.declared.monitor.Trip.TheVariants.{Conflict, GreenToRed}
 use Rattle.tsb_step.specs.declared.TheConstants.{MONITOR_CELLS}
@@ -27,10 +28,10 @@ pub record IsMonitorBy (now : ℕ) (row : List ℕ) : Type 0 where
   pub kind : slice_index row 4 ≤ 3
   pub unlit : slice_index row 4 ≡ 0 → (slice_index row 5 ≡ 0) × (slice_index row 6 ≡ 0)
   pub phase : 1 ≤ slice_index row 4 → slice_index row 4 ≤ 2 → IsUpTo 16 (slice_index row 5)
-  pub overlap : slice_index row 4 ≡ 3 → IsUpTo 4 (slice_index row 5)
+  pub overlap : slice_index row 4 ≡ 3 → IsUpTo OVERLAPS (slice_index row 5)
   pub color : slice_index row 6 ≤ 2
 
--- ## States that it can hold: phases are among 1 to 16, overlaps among 1 to 4, and no trip is of a later tick
+-- ## States that it can hold: phases and overlaps are among those that there are, and no trip is of a later tick
 
 -- each phase that it names is one of 1 to 16
 abbrev pub IsCause : Trip → Type 0
@@ -42,12 +43,12 @@ abbrev pub IsTrip : ℕ → Option Tripped → Type 0
 IsTrip now None = Unit {0}
 IsTrip now (Some trip) = IsCause trip.cause × (trip.tick ≤ now)
 
--- none, or one in a head of phases 1 to 16 or of overlaps 1 to 4
+-- none, or one in a head of phases 1 to 16 or of an overlap
 abbrev pub IsLamp : Option Lamp → Type 0
 IsLamp None = Unit {0}
 IsLamp (Some (lamps.Phase p color)) = IsUpTo 16 p
 IsLamp (Some (lamps.Pedestrian p color)) = IsUpTo 16 p
-IsLamp (Some (lamps.Overlap o color)) = IsUpTo 4 o
+IsLamp (Some (lamps.Overlap o color)) = IsUpTo OVERLAPS o
 
 -- ## Laws
 

@@ -12,7 +12,7 @@ use Rattle.tsb_types.specs.declared.flow.Moves.{Moves}
 use Rattle.tsb_types.specs.declared.row.Row.{Row}
 use Rattle.tsb_types.specs.Clip.{clipped, within}
 use Rattle.tsb_types.specs.Intervals.{is_green}
-use Rattle.tsb_types.specs.Sets.{has_number}
+use Rattle.tsb_types.specs.Sets.{has_detector, has_number}
 use Rattle.tsb_objects.specs.tsb_plan.Parts.{call_phase, is_anew}
 use Rattle.tsb_objects.specs.tsb_plan.Running.{running}
 use Rattle.tsb_detect.specs.Detector as detector
@@ -40,7 +40,7 @@ use Rattle.tsb_step.specs.Signs.{is_lasting, shown}
 
 -- ## Preempts: stage, target, what must end
 
--- the preempt inputs of the row, 1 to 4 alone, and the intervals that were
+-- the preempt inputs of the row, of preempts alone, and the intervals that were
 abbrev pub preempts_given : State → Row → preempts.Given
 preempts_given s row = record {
   row = λ n. preempts.is_preempt n && has_number row.preempts n;
@@ -110,7 +110,7 @@ green_timer s (Some p) = if is_green (interval s p) then (phase.as_read (s.phase
 -- the detectors after the tick
 unfoldable pub new_detectors : State → Row → ℕ → Detector
 new_detectors s row =
-    detector.all_after s.plan (s.now + 1) (has_number row.vehicles) (λ d. green_timer s (call_phase s.plan d)) s.detectors
+    detector.all_after s.plan (s.now + 1) (has_detector row.vehicles) (λ d. green_timer s (call_phase s.plan d)) s.detectors
 
 -- ## Calls: memories as set, counts, what is callable, conflict
 

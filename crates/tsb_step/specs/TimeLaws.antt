@@ -139,7 +139,7 @@ CommitmentsAreWanted = OfEveryRun (λ s. (row : Row) (r : Ring) (c : ℕ) → s.
 -- what is given up in a tick changes no phase, and no head of it or of an overlap
 pub record ShowsTheSame (s t : State) : Type 0 where
   pub phases : t.phases ≡ s.phases
-  pub overlap : (o : ℕ) → IsOverlap o → overlap_head t.plan (shown t) o ≡ overlap_head s.plan (shown s) o
+  pub overlap : (o : ℕ) → IsOverlap s.plan o → overlap_head t.plan (shown t) o ≡ overlap_head s.plan (shown s) o
 
 -- each tick of every run does
 abbrev pub GivingUpShowsNothing : Type 0

@@ -61,7 +61,7 @@ pub fn rings_act_in_either_order()
     ensures { RingsActInEitherOrder }
 {}
 
-/// A preempt in service has phases to serve. It is one of the four, and the list of its stage is not empty and names
+/// A preempt in service has phases to serve. It is one of the plan's, and the list of its stage is not empty and names
 /// enabled, pairwise concurrent phases, across every commit.
 ///
 /// Not said: that they are ever served, or when its dwell begins.

@@ -3,8 +3,8 @@
 use std::alloc::{AllocError, Global};
 use std::test::Fail;
 use tsb_bench::{
-    Answer, Bench, Checked, Cmd, Detector, DetectorSet, Input, Lamp, NumberSet, Object, ObjectId, Overlap,
-    PedestrianColor, Phase, Plan, Refusal, Row, SignalColor, Station, Watch, play,
+    Answer, Bench, Checked, Cmd, Detector, DetectorSet, Input, Lamp, NumberSet, Object, ObjectId,
+    Overlap, PedestrianColor, Phase, Plan, Refusal, Row, SignalColor, Station, Watch, play,
 };
 
 /// Vehicle detector 3, the walk button of phase 2 and preempt 3 are on, which has no dwell phases and so never requests.

@@ -137,7 +137,7 @@ const OTHERS: [&[u8]; 13] = [
     b"begin 5",
     b"fault W1 G",
     b"fault P03 G",
-    b"fault O5 R",
+    b"fault O17 R",
     b"when ped 17",
     b"# quit",
     b"",

@@ -32,7 +32,15 @@ fn shown(
         walk: PhaseSet::from_list(walk),
         clearance: PhaseSet::from_list(clearance),
     };
-    Display::new(&intervals, &pedestrians, None, None, &OverlapLights::none(), tripped, plan)
+    Display::new(
+        &intervals,
+        &pedestrians,
+        None,
+        None,
+        &OverlapLights::none(),
+        tripped,
+        plan,
+    )
 }
 
 /// Whether this is the line of a tick at which the heads show this.
@@ -96,7 +104,10 @@ fn makes(
     preempt: Option<Preempt>,
     wanted: &[u8],
 ) -> bool {
-    lines.line_text(false, tick, display, preempt, None).as_bytes() == wanted
+    lines
+        .line_text(false, tick, display, preempt, None)
+        .as_bytes()
+        == wanted
 }
 
 /// Whether a maker writes heads that stay, heads that change, and again those before.

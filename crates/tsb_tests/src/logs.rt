@@ -200,11 +200,8 @@ fn have_faults_of_forms(alloc: Global) -> bool {
         alloc,
         b"0000100 0010010000000000 00000000 0000\n0000101\n",
         "log line 2: malformed",
-    ) && says(
-        alloc,
-        b"0000100 V3\n\n0000100\n",
-        "log line 3: tick order",
-    ) && says(alloc, b"0000000 V3\n", "log line 1: malformed")
+    ) && says(alloc, b"0000100 V3\n\n0000100\n", "log line 3: tick order")
+        && says(alloc, b"0000000 V3\n", "log line 1: malformed")
         && says(alloc, b"0000100 \n", "log line 1: malformed")
         && says(alloc, b"0000100V3\n", "log line 1: malformed")
         && says(alloc, b"000100 V3\n", "log line 1: malformed")

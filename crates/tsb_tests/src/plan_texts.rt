@@ -138,8 +138,8 @@ const TEXTS: [(&str, &str); 21] = [
         "plan: overlapAcrossRings: no such object",
     ),
     (
-        r#"{"version":3,"overlapAcrossRings":{"5":1}}"#,
-        "plan: overlapAcrossRings.5: no such object",
+        r#"{"version":3,"overlapAcrossRings":{"17":1}}"#,
+        "plan: overlapAcrossRings.17: no such object",
     ),
     (
         r#"{"version":2,"preemptChoosesAnew":{}}"#,

@@ -66,21 +66,21 @@ fn numbers_of_plans_are(byte: u8) -> bool {
     let eight = from_one(byte, 8);
     let four = from_one(byte, 4);
     Ring::new(number).map(Ring::number) == from_one(byte, 2)
-        && PedestrianDetector::new(number).map(PedestrianDetector::number) == eight
+        && PedestrianDetector::new(number).map(PedestrianDetector::number) == from_one(byte, 16)
         && Pattern::new(number).map(Pattern::number) == from_one(byte, 16)
         && Split::new(number).map(Split::number) == eight
         && Sequence::new(number).map(Sequence::number) == four
-        && Preempt::new(number).map(Preempt::number) == four
+        && Preempt::new(number).map(Preempt::number) == eight
 }
 
 /// Whether the greatest of them is made in both ways.
 fn greatest_of_plans_are() -> bool {
     Ring::new(2) == Some(Ring::of(2))
-        && PedestrianDetector::new(8) == Some(PedestrianDetector::of(8))
+        && PedestrianDetector::new(16) == Some(PedestrianDetector::of(16))
         && Pattern::new(16) == Some(Pattern::of(16))
         && Split::new(8) == Some(Split::of(8))
         && Sequence::new(4) == Some(Sequence::of(4))
-        && Preempt::new(4) == Some(Preempt::of(4))
+        && Preempt::new(8) == Some(Preempt::of(8))
         && Phase::all().len() == 16
 }
 
@@ -98,24 +98,24 @@ fn numbers_are(byte: u8) -> bool {
     let four = from_one(byte, 4);
     let sixteen = from_one(byte, 16);
     Phase::new(number).map(Phase::number) == sixteen
-        && Detector::new(number).map(Detector::number) == sixteen
+        && Detector::new(number).map(Detector::number) == from_one(byte, 64)
         && Side::new(number).map(Side::number) == four
-        && Overlap::new(number).map(Overlap::number) == four
+        && Overlap::new(number).map(Overlap::number) == sixteen
         && Station::new(number).map(Station::number) == four
 }
 
 /// Whether the greatest of them is made in both ways.
 fn greatest_are() -> bool {
     Phase::new(16) == Some(Phase::of(16))
-        && Detector::new(16) == Some(Detector::of(16))
+        && Detector::new(64) == Some(Detector::of(64))
         && Side::new(4) == Some(Side::of(4))
-        && Overlap::new(4) == Some(Overlap::of(4))
+        && Overlap::new(16) == Some(Overlap::of(16))
         && Station::new(4) == Some(Station::of(4))
 }
 
 #[test]
 fn numbers_hold_their_range(rt: HostRuntime) {
-    for byte in 0..20 {
+    for byte in 0..70 {
         assert!(rt; numbers_are(byte));
     }
     assert!(rt; greatest_are());

@@ -13,12 +13,21 @@ fn has_range(object: Object, indices: u32, greatest: u32) -> bool {
     Version::One.has(object) && range(Version::One, object) == Some((indices, greatest))
 }
 
-/// Whether versions 2 and 3 have the object, with its whole range, and version 1 has not.
+/// Whether version 2 has the object, with the values of version 3 and at most its indices.
+fn is_within(object: Object) -> bool {
+    let whole = range_of(object);
+    match range(Version::Two, object) {
+        Some((indices, greatest)) => indices <= whole.indices && greatest == whole.greatest,
+        None => false,
+    }
+}
+
+/// Whether versions 2 and 3 have the object, version 3 with its whole range, and version 1 has not.
 fn is_new(object: Object) -> bool {
     object.since() == Version::Two
         && !Version::One.has(object)
         && object.range_in(Version::One) == None
-        && object.range_in(Version::Two) == Some(range_of(object))
+        && is_within(object)
         && object.range_in(Version::Three) == Some(range_of(object))
 }
 
@@ -105,15 +114,19 @@ fn are_new(objects: &[Object]) -> bool {
     true
 }
 
-/// Whether version 2 has all splits and sides.
-fn ranges_of_2_are_whole() -> bool {
+/// Whether version 2 has all splits and sides, and fewer detectors, overlaps and preempts than version 3.
+fn version_2_is_told() -> bool {
     range(Version::Two, Object::SplitTime) == Some((128, 255))
         && range(Version::Two, Object::PhaseSide) == Some((16, 4))
+        && range(Version::Two, Object::VehicleDetectorDelay) == Some((16, 2550))
+        && range(Version::Two, Object::PedestrianDetectorCallPhase) == Some((8, 16))
+        && range(Version::Two, Object::OverlapType) == Some((4, 1))
+        && range(Version::Two, Object::PreemptExitPhase) == Some((4, 65_535))
 }
 
 #[test]
 fn version_1_is_smaller(rt: HostRuntime) {
-    assert!(rt; have_ranges(&SMALLER) && are_new(&NEW) && ranges_of_2_are_whole());
+    assert!(rt; have_ranges(&SMALLER) && are_new(&NEW) && version_2_is_told());
 }
 
 /// Whether indices of version 1 are translated.
@@ -147,8 +160,7 @@ fn indices_are_translated(rt: HostRuntime) {
 /// Whether version 3 has each object as a plan has it, and each that version 2 has.
 fn is_whole_in_3(object: Object) -> bool {
     let whole = Some(range_of(object));
-    object.range_in(Version::NEWEST) == whole
-        && (!Version::Two.has(object) || object.range_in(Version::Two) == whole)
+    object.range_in(Version::NEWEST) == whole && (!Version::Two.has(object) || is_within(object))
 }
 
 #[test]

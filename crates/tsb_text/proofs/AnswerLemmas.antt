@@ -19,14 +19,14 @@ use Rattle.tsb_bench.specs.tsb_step.Runs.{replay}
 use Rattle.tsb_bench.specs.tsb_step.State.{State}
 use Rattle.tsb_bench.specs.tsb_step.Step.{step}
 use Rattle.tsb_objects.specs.tsb_plan.Plan.{Plan}
-use Rattle.tsb_bench.specs.Held.{Held, state_of, whole}
+use Rattle.tsb_bench.specs.Held.{state_of, whole}
 use Rattle.tsb_dialog.specs.Said.{IsCutShort, Said, SaidUntilFault, Wrote, with_feed}
 use Rattle.tsb_dialog.proofs.SaidLemmas.{said-nothing, said-more, still-cut, until-line, until-more}
 use Rattle.tsb_lines.specs.declared.writes.WriteError.{WriteError}
 use Rattle.tsb_log_text.specs.declared.log.LogRow.{LogRow}
 use Rattle.tsb_text.specs.declared.course.Mode.{Mode}
 use Rattle.tsb_text.specs.declared.task.Task.TheVariants.{Show, Quit}
-use Rattle.tsb_text.specs.Answers.{GoesUnless, Leads, Setup, display_line, follower, follower_of, next_tick, refused_after, refused_line, told}
+use Rattle.tsb_text.specs.Answers.{GoesUnless, Leads, Setup, follower, follower_of, line_in, next_tick, refused_after, refused_line, told}
 use Rattle.tsb_text.specs.Obeyed.{Answered, Done, Followed, OnCourse, Stands, TellsNext, Took, news_in, tells_in}
 use Rattle.tsb_text.specs.Obeys.{AsksOnce, Besides, Obeys, TakesTicks, Ticked, before_line, news, news_of, or_refusal, refusal_in, trail, trail_of}
 use Rattle.tsb_text.specs.Trails.{Trailing, Trails}
@@ -228,21 +228,22 @@ check-follows true given is station acts = rw acts (check-alone (replay given.pl
 check-follows false given is station acts = rw acts refl
 
 -- what follows leaves the line of an answer as it was: of an answer that shows a state nothing follows
-alone-told : (given : Setup) (after : List Input) (stop : Option Refusal) (left : List Input) (cmd : Cmd) (a : Answer) (next : Option Input) → next ≡ None → Leads given after next stop left → told cmd a (replay given.plan left) ≡ told cmd a (replay given.plan after)
+alone-told : (given : Setup) (after : List Input) (stop : Option Refusal) (left : List Input) (cmd : Cmd) (a : Answer) (next : Option Input) → next ≡ None → Leads given after next stop left
+    → told given.is_wide cmd a (replay given.plan left) ≡ told given.is_wide cmd a (replay given.plan after)
 alone-told given after stop left cmd a next none leads =
     let l : (stop ≡ None) × (left ≡ after) = subst (λ (n : Option Input). Leads given after n stop left) none leads in
-    ap (λ (is : List Input). told cmd a (replay given.plan is)) l.1
+    ap (λ (is : List Input). told given.is_wide cmd a (replay given.plan is)) l.1
 
 line-stays : (given : Setup) (is : List Input) (cmd : Cmd) (a : Answer) (stop : Option Refusal) (left : List Input) → Leads given (remaining_after given.plan is cmd a) (follower_of given is cmd a) stop left
-    → told cmd a (replay given.plan left) ≡ told cmd a (replay given.plan (remaining_after given.plan is cmd a))
+    → told given.is_wide cmd a (replay given.plan left) ≡ told given.is_wide cmd a (replay given.plan (remaining_after given.plan is cmd a))
 line-stays given is (Apply (inputs.Verify station)) answers.Took stop left leads =
     alone-told given (inputs.Verify station ∷ is) stop left (Apply (inputs.Verify station)) answers.Took (follower given is (inputs.Verify station)) (check-follows given.acts given is station refl) leads
 line-stays given is (Apply i) answers.Took stop left leads = refl
 line-stays given is cmd a stop left leads = alone-told given (remaining_after given.plan is cmd a) stop left cmd a None refl leads
 
 -- all that is said of an answer that is no refusal, with these lines of what follows
-abbrev once_text : List ℕ → Answer → List ℕ → List ℕ → Cmd → State → Option Refusal → List ℕ
-once_text echo a news trailing cmd s stop = (before_line echo a news ++ trailing) ++ (with_feed (told cmd a s) ++ refused_after echo stop)
+abbrev once_text : List ℕ → Answer → List ℕ → List ℕ → Bool → Cmd → State → Option Refusal → List ℕ
+once_text echo a news trailing is_wide cmd s stop = (before_line echo a news ++ trailing) ++ (with_feed (told is_wide cmd a s) ++ refused_after echo stop)
 
 module _ (given : Setup) (log : List LogRow) (is : List Input) (cmd : Cmd) (a : Answer) (mid : OnCourse) (mode : Mode) (echo : List ℕ) (same : mid.mode ≡ mode) (none : None ≡ refusal_in a)
     (s : Answered given log mid is cmd a) (next : mid.next ≡ follower_of given is cmd a) where
@@ -259,9 +260,9 @@ module _ (given : Setup) (log : List LogRow) (is : List Input) (cmd : Cmd) (a : 
   leads-there : (stop : Option Refusal) (left : List Input) → Leads given after mid.next stop left → Leads given after (follower_of given is cmd a) stop left
   leads-there stop left leads = subst (λ (n : Option Input). Leads given after n stop left) next leads
 
-  once : (text : List ℕ) (stop : Option Refusal) (left : List Input) (state : State) → Trailed text stop left → told cmd a state ≡ told cmd a (replay given.plan after)
-      → IsOnce (once_text echo a (news_in mid) text cmd state stop) stop left
-  once text stop left state t line =
+  once : (text : List ℕ) (stop : Option Refusal) (left : List Input) (is_wide : Bool) (state : State) → Trailed text stop left
+      → told is_wide cmd a state ≡ told given.is_wide cmd a (replay given.plan after) → IsOnce (once_text echo a (news_in mid) text is_wide cmd state stop) stop left
+  once text stop left is_wide state t line =
       let before : before_line echo a (news_in mid) ≡ before_line echo a (news_of (tells_in mode) given is cmd) =
       before-same echo a (news_in mid) (news_of (tells_in mode) given is cmd) (λ took. s.tells took ∙ ap (λ (m : Mode). news_of (tells_in m) given is cmd) same) in
       let trailing : text ≡ trail_of (tells_in mode) given is cmd a stop = t.told ∙ (λ j. trail (tells_in (same j)) given after (next j) stop) in
@@ -280,9 +281,9 @@ module _ (given : Setup) (log : List LogRow) (is : List Input) (cmd : Cmd) (a : 
       let f : (stop : Option Refusal) × (left : List Input) × Leads given after mid.next stop left = some-leads given after mid.next in
       let tells : List ℕ = trail (tells_in mid.mode) given after mid.next f.0 in
       let state : State = replay given.plan after in
-      done-cut e given log mid IsOnce f.0 f.1 (once_text echo a (news_in mid) tells cmd state f.0) p q u v
-      (once tells f.0 f.1 state (record { leads = f.2; told = refl }) refl)
-      (still-cut p q u v (before_line echo a (news_in mid) ++ tells) (with_feed (told cmd a state) ++ refused_after echo f.0)
+      done-cut e given log mid IsOnce f.0 f.1 (once_text echo a (news_in mid) tells given.is_wide cmd state f.0) p q u v
+      (once tells f.0 f.1 given.is_wide state (record { leads = f.2; told = refl }) refl)
+      (still-cut p q u v (before_line echo a (news_in mid) ++ tells) (with_feed (told given.is_wide cmd a state) ++ refused_after echo f.0)
       (still-cut p q u v (before_line echo a (news_in mid)) tells cut))
 
   module _ (new : OnCourse) where
@@ -290,49 +291,49 @@ module _ (given : Setup) (log : List LogRow) (is : List Input) (cmd : Cmd) (a : 
     pub ask-cut-next : (e : WriteError) (x y z : Option (List ℕ)) (p q r : List ℕ) → Said x y p q (before_line echo a (news_in mid)) → Done (Err e) given log new Trailed y z q r → Done (Err e) given log new IsOnce x z p r
     ask-cut-next e x y z p q r said d =
         let state : State = replay given.plan after in
-        done-cut e given log new IsOnce d.so.1 d.so.2 (once_text echo a (news_in mid) (d.text ++ d.so.0) cmd state d.so.1) x z p r
-        (once (d.text ++ d.so.0) d.so.1 d.so.2 state d.so.3 refl)
-        (still-cut x z p r (before_line echo a (news_in mid) ++ (d.text ++ d.so.0)) (with_feed (told cmd a state) ++ refused_after echo d.so.1)
+        done-cut e given log new IsOnce d.so.1 d.so.2 (once_text echo a (news_in mid) (d.text ++ d.so.0) given.is_wide cmd state d.so.1) x z p r
+        (once (d.text ++ d.so.0) d.so.1 d.so.2 given.is_wide state d.so.3 refl)
+        (still-cut x z p r (before_line echo a (news_in mid) ++ (d.text ++ d.so.0)) (with_feed (told given.is_wide cmd a state) ++ refused_after echo d.so.1)
         (until-more {T = Unit {0}} (Err e) x y z p q r (before_line echo a (news_in mid)) (d.text ++ d.so.0) said (cut-of e given log new Trailed y z q r d)))
 
-    module _ (stop : Option Refusal) (bench : Held) (there : bench ≡ new.bench) (x y z w : Option (List ℕ)) (p q r t : List ℕ) (said : Said x y p q (before_line echo a (news_in mid)))
+    module _ (stop : Option Refusal) (x y z w : Option (List ℕ)) (p q r t : List ℕ) (said : Said x y p q (before_line echo a (news_in mid)))
         (f : Done (Ok stop) given log new Trailed y z q r) where
       -- the line shows the state before what follows
-      shows : told cmd a (state_of bench) ≡ told cmd a (replay given.plan after)
+      shows : told new.is_wide cmd a (state_of new.bench) ≡ told given.is_wide cmd a (replay given.plan after)
       shows =
-          ap (λ (b : Held). told cmd a (state_of b)) there ∙ ap (λ (x : State). told cmd a x) (follows-state given.plan (whole new.bench) f.0 f.1.follows)
+          (λ j. told (f.1.wide j) cmd a (follows-state given.plan (whole new.bench) f.0 f.1.follows j))
           ∙ line-stays given is cmd a stop f.0 (leads-there stop f.0 f.2.so.leads)
 
       -- in the line of the answer
-      pub ask-cut-line : (e : WriteError) → IsCutShort z w r t (with_feed (told cmd a (state_of bench))) → Done (Err e) given log new IsOnce x w p t
+      pub ask-cut-line : (e : WriteError) → IsCutShort z w r t (with_feed (told new.is_wide cmd a (state_of new.bench))) → Done (Err e) given log new IsOnce x w p t
       ask-cut-line e cut =
-          done-cut e given log new IsOnce stop f.0 (once_text echo a (news_in mid) f.2.text cmd (state_of bench) stop) x w p t (once f.2.text stop f.0 (state_of bench) f.2.so shows)
-          (until-more {T = Unit {0}} (Err e) x z w p r t (before_line echo a (news_in mid) ++ f.2.text) (with_feed (told cmd a (state_of bench)) ++ refused_after echo stop)
+          done-cut e given log new IsOnce stop f.0 (once_text echo a (news_in mid) f.2.text new.is_wide cmd (state_of new.bench) stop) x w p t (once f.2.text stop f.0 new.is_wide (state_of new.bench) f.2.so shows)
+          (until-more {T = Unit {0}} (Err e) x z w p r t (before_line echo a (news_in mid) ++ f.2.text) (with_feed (told new.is_wide cmd a (state_of new.bench)) ++ refused_after echo stop)
           (said-more x y z p q r (before_line echo a (news_in mid)) f.2.text said f.2.said)
-          (still-cut z w r t (with_feed (told cmd a (state_of bench))) (refused_after echo stop) cut))
+          (still-cut z w r t (with_feed (told new.is_wide cmd a (state_of new.bench))) (refused_after echo stop) cut))
 
       -- all was said before the line of a refusal
-      pub ask-so : (result : Result (Option Refusal) WriteError) (o : Option (List ℕ)) (l : List ℕ) → Said z w r t (with_feed (told cmd a (state_of bench)))
+      pub ask-so : (result : Result (Option Refusal) WriteError) (o : Option (List ℕ)) (l : List ℕ) → Said z w r t (with_feed (told new.is_wide cmd a (state_of new.bench)))
           → OnOk result (result ≡ Ok stop) → SaidUntilFault result w o t l (refused_after echo stop) → Done result given log new IsOnce x o p l
       ask-so result o l shown why last =
-          done-so result given log new IsOnce stop f.0 (once_text echo a (news_in mid) f.2.text cmd (state_of bench) stop) x o p l f.1 (once f.2.text stop f.0 (state_of bench) f.2.so shows) why
-          (until-more result x z o p r l (before_line echo a (news_in mid) ++ f.2.text) (with_feed (told cmd a (state_of bench)) ++ refused_after echo stop)
+          done-so result given log new IsOnce stop f.0 (once_text echo a (news_in mid) f.2.text new.is_wide cmd (state_of new.bench) stop) x o p l f.1 (once f.2.text stop f.0 new.is_wide (state_of new.bench) f.2.so shows) why
+          (until-more result x z o p r l (before_line echo a (news_in mid) ++ f.2.text) (with_feed (told new.is_wide cmd a (state_of new.bench)) ++ refused_after echo stop)
           (said-more x y z p q r (before_line echo a (news_in mid)) f.2.text said f.2.said)
-          (until-more result z w o r t l (with_feed (told cmd a (state_of bench))) (refused_after echo stop) shown last))
+          (until-more result z w o r t l (with_feed (told new.is_wide cmd a (state_of new.bench))) (refused_after echo stop) shown last))
 
 -- ## The display, and the end
 
 pub show-done : (given : Setup) (log : List LogRow) (besides : Besides) (is : List Input) (course : OnCourse) (p q : Option (List ℕ)) (u v line : List ℕ)
-    → Stands given log course is → line ≡ display_line (state_of course.bench) → Said p q u v (with_feed line) → Done (Ok None) given log course (Obeys given besides is Show) p q u v
+    → Stands given log course is → line ≡ line_in course.is_wide (state_of course.bench) → Said p q u v (with_feed line) → Done (Ok None) given log course (Obeys given besides is Show) p q u v
 show-done given log besides is course p q u v line stands tells said =
     let state : state_of course.bench ≡ replay given.plan is = follows-state given.plan (whole course.bench) is stands.follows in
-    (is, stands, record { text = with_feed line; said = said; so = (ap with_feed (tells ∙ ap display_line state), refl, refl) })
+    (is, stands, record { text = with_feed line; said = said; so = (ap with_feed (tells ∙ (λ j. line_in (stands.wide j) (state j))), refl, refl) })
 
 pub show-fault : (e : WriteError) (given : Setup) (log : List LogRow) (besides : Besides) (is : List Input) (course : OnCourse) (p q : Option (List ℕ)) (u v line : List ℕ)
-    → Stands given log course is → line ≡ display_line (state_of course.bench) → Said p q u v [] → Done (Err e) given log course (Obeys given besides is Show) p q u v
+    → Stands given log course is → line ≡ line_in course.is_wide (state_of course.bench) → Said p q u v [] → Done (Err e) given log course (Obeys given besides is Show) p q u v
 show-fault e given log besides is course p q u v line stands tells said =
     let state : state_of course.bench ≡ replay given.plan is = follows-state given.plan (whole course.bench) is stands.follows in
-    record { text = []; said = said; so = (with_feed line, None, is, (ap with_feed (tells ∙ ap display_line state), refl, refl)) }
+    record { text = []; said = said; so = (with_feed line, None, is, (ap with_feed (tells ∙ (λ j. line_in (stands.wide j) (state j))), refl, refl)) }
 
 pub quit-done : (given : Setup) (log : List LogRow) (besides : Besides) (is : List Input) (course : OnCourse) (p : Option (List ℕ)) (u : List ℕ) → Stands given log course is
     → Done (Ok None) given log course (Obeys given besides is Quit) p p u u
@@ -362,12 +363,12 @@ steps-start given log besides is n k course p u all stands = record {
 -- a tick was taken, and what follows it; then this is said
 ticked : (given : Setup) (log : List LogRow) (besides : Besides) (now : List Input) (mid : OnCourse) (text rest : List ℕ) (stop : Option Refusal) (left : List Input)
     → tells_in mid.mode ≡ besides.tells → Took (Ok tt) given log mid now (next_tick given now) → mid.next ≡ follower given now (next_tick given now)
-    → Trails given (record { tells = tells_in mid.mode; echo = besides.echo }) (next_tick given now ∷ now) mid.next (news_in mid) (display_line (state_of mid.bench)) text stop left
+    → Trails given (record { tells = tells_in mid.mode; echo = besides.echo }) (next_tick given now ∷ now) mid.next (news_in mid) (line_in given.is_wide (state_of mid.bench)) text stop left
     → Ticked given besides now (text ++ rest) rest stop left
 ticked given log besides now mid text rest stop left tells took next t =
     let i : Input = next_tick given now in
     let told : List ℕ = news_in mid ++ trail (tells_in mid.mode) given (i ∷ now) mid.next stop in
-    let shown : List ℕ = with_feed (display_line (state_of mid.bench)) in
+    let shown : List ℕ = with_feed (line_in given.is_wide (state_of mid.bench)) in
     let refused : List ℕ = refused_after besides.echo stop in
     let state : state_of mid.bench ≡ replay given.plan (i ∷ now) = follows-state given.plan (whole mid.bench) (i ∷ now) took.1.follows in
     let same : news_in mid ≡ news besides.tells given now i =
@@ -376,7 +377,7 @@ ticked given log besides now mid text rest stop left tells took next t =
       right = took.0;
       leads = subst (λ (n : Option Input). Leads given (i ∷ now) n stop left) next t.leads;
       line = ap (λ (v : List ℕ). v ++ rest) t.told ∙ append_assoc told (shown ++ refused) rest ∙ ap (λ (v : List ℕ). told ++ v) (append_assoc shown refused rest)
-          ∙ (λ j. (same j ++ trail (tells j) given (i ∷ now) (next j) stop) ++ (with_feed (display_line (state j)) ++ (refused ++ rest)));
+          ∙ (λ j. (same j ++ trail (tells j) given (i ∷ now) (next j) stop) ++ (with_feed (line_in given.is_wide (state j)) ++ (refused ++ rest)));
     }
 
 -- a tick that takes a bench to another, with what follows it
@@ -386,7 +387,7 @@ module _ (given : Setup) (log : List LogRow) (besides : Besides) (is : List Inpu
     (next : (given : Setup) (log : List LogRow) (inputs : List Input) → Stands given log old inputs → mid.next ≡ follower given inputs (next_tick given inputs)) where
   -- all that is said of the tick
   abbrev TrailsTick : Setup → List Input → List ℕ → Option Refusal → List Input → Type 0
-  TrailsTick given inputs = Trails given (record { tells = tells_in mid.mode; echo = besides.echo }) inputs mid.next (news_in mid) (display_line (state_of mid.bench))
+  TrailsTick given inputs = Trails given (record { tells = tells_in mid.mode; echo = besides.echo }) inputs mid.next (news_in mid) (line_in given.is_wide (state_of mid.bench))
 
   abbrev behind : List Input
   behind = next_tick given s.now ∷ s.now

@@ -77,11 +77,11 @@ nothing-kept m kept plan is plain = subst (λ (x : Mode). IsKept x kept plan is)
 nothing-told : (m : Mode) (told : Telling) (given : Setup) (is : List Input) → m ≡ Plain → IsTold m told given is
 nothing-told m told given is plain = subst (λ (x : Mode). IsTold x told given is) (sym plain) tt
 
-pub plain-took : (r : Result (Unit {0}) Refusal) (given : Setup) (log : List LogRow) (is : List Input) (old new : OnCourse) (i : Input) → Stands given log old is → new.mode ≡ Plain → new.rows ≡ old.rows → new.acts ≡ old.acts
+pub plain-took : (r : Result (Unit {0}) Refusal) (given : Setup) (log : List LogRow) (is : List Input) (old new : OnCourse) (i : Input) → Stands given log old is → new.mode ≡ Plain → new.rows ≡ old.rows → new.acts ≡ old.acts → new.is_wide ≡ old.is_wide
     → BenchTook r given.plan new.bench is i → Took r given log new is i
-plain-took (Ok u) given log is old new i s plain rows acts took =
-    (took.0, record { same = s.same; rows = rows ∙ s.rows; acts = acts ∙ s.acts; follows = took.1; keeps = nothing-kept new.mode new.kept.kept given.plan (i ∷ is) plain; tells = nothing-told new.mode new.told.told given (i ∷ is) plain }, λ tells. absurd (no-news new.mode plain tells))
-plain-took (Err e) given log is old new i s plain rows acts took = (took.0, record { same = s.same; rows = rows ∙ s.rows; acts = acts ∙ s.acts; follows = took.1; keeps = nothing-kept new.mode new.kept.kept given.plan is plain; tells = nothing-told new.mode new.told.told given is plain })
+plain-took (Ok u) given log is old new i s plain rows acts wide took =
+    (took.0, record { same = s.same; rows = rows ∙ s.rows; acts = acts ∙ s.acts; wide = wide ∙ s.wide; follows = took.1; keeps = nothing-kept new.mode new.kept.kept given.plan (i ∷ is) plain; tells = nothing-told new.mode new.told.told given (i ∷ is) plain }, λ tells. absurd (no-news new.mode plain tells))
+plain-took (Err e) given log is old new i s plain rows acts wide took = (took.0, record { same = s.same; rows = rows ∙ s.rows; acts = acts ∙ s.acts; wide = wide ∙ s.wide; follows = took.1; keeps = nothing-kept new.mode new.kept.kept given.plan is plain; tells = nothing-told new.mode new.told.told given is plain })
 
 pub keeps-inputs : (m : Mode) → m ≡ KeepsInputs → Keeps m
 keeps-inputs m is = subst Keeps (sym is) tt
@@ -113,23 +113,24 @@ tick-there : (plan : Plan) (is : List Input) (bench : Held) → Follows plan (wh
 tick-there plan is bench f = ap (λ (s : State). s.now) (follows-state plan (whole bench) is f)
 
 -- an input was taken and kept; it has told its events, where they are told
-pub kept-took : (given : Setup) (log : List LogRow) (is : List Input) (old new : OnCourse) (tick : ℕ) (i : Input) → Stands given log old is → Keeps old.mode → new.mode ≡ old.mode → new.rows ≡ old.rows → new.acts ≡ old.acts → tick ≡ old.bench.tick
+pub kept-took : (given : Setup) (log : List LogRow) (is : List Input) (old new : OnCourse) (tick : ℕ) (i : Input) → Stands given log old is → Keeps old.mode → new.mode ≡ old.mode → new.rows ≡ old.rows → new.acts ≡ old.acts → new.is_wide ≡ old.is_wide → tick ≡ old.bench.tick
     → BenchTook (Ok tt) given.plan new.bench is i → new.kept.kept ≡ with_input i tick old.kept.kept
     → (tells_in new.mode ≡ true → new.news ≡ events_of (usual_after (last_row is)) (replay given.plan is) i) → Took (Ok tt) given log new is i
-kept-took given log is old new tick i s keeps mode rows acts at took kept told =
+kept-took given log is old new tick i s keeps mode rows acts wide at took kept told =
     let was : old.kept.kept ≡ kept_of given.plan is = is-kept old.mode old.kept.kept given.plan is keeps s.keeps in
     let there : tick ≡ (replay given.plan is).now = at ∙ tick-there given.plan is old.bench s.follows in
-    (took.0, record { same = s.same; rows = rows ∙ s.rows; follows = took.1; keeps = as-kept new.mode new.kept.kept given.plan (i ∷ is) (kept ∙ (λ j. with_input i (there j) (was j))); acts = acts ∙ s.acts; tells = not-recorded new.mode new.told.told given (i ∷ is) (subst Keeps (sym mode) keeps) }, told)
+    (took.0, record { same = s.same; rows = rows ∙ s.rows; follows = took.1; keeps = as-kept new.mode new.kept.kept given.plan (i ∷ is) (kept ∙ (λ j. with_input i (there j) (was j))); acts = acts ∙ s.acts; wide = wide ∙ s.wide; tells = not-recorded new.mode new.told.told given (i ∷ is) (subst Keeps (sym mode) keeps) }, told)
 
 -- it was refused, and nothing has changed
-pub kept-refused : (e : Refusal) (given : Setup) (log : List LogRow) (is : List Input) (old new : OnCourse) (i : Input) → Stands given log old is → new.mode ≡ old.mode → new.rows ≡ old.rows → new.acts ≡ old.acts → new.kept.kept ≡ old.kept.kept → new.told.told ≡ old.told.told
+pub kept-refused : (e : Refusal) (given : Setup) (log : List LogRow) (is : List Input) (old new : OnCourse) (i : Input) → Stands given log old is → new.mode ≡ old.mode → new.rows ≡ old.rows → new.acts ≡ old.acts → new.is_wide ≡ old.is_wide → new.kept.kept ≡ old.kept.kept → new.told.told ≡ old.told.told
     → BenchTook (Err e) given.plan new.bench is i → Took (Err e) given log new is i
-kept-refused e given log is old new i s mode rows acts kept told took = (
+kept-refused e given log is old new i s mode rows acts wide kept told took = (
   took.0,
   record {
     same = s.same;
     rows = rows ∙ s.rows;
     acts = acts ∙ s.acts;
+    wide = wide ∙ s.wide;
     follows = took.1;
     keeps = subst (λ (m : Mode). IsKept m new.kept.kept given.plan is) (sym mode) (subst (λ (k : Keeping). IsKept old.mode k given.plan is) (sym kept) s.keeps);
     tells = subst (λ (m : Mode). IsTold m new.told.told given is) (sym mode) (subst (λ (x : Telling). IsTold old.mode x given is) (sym told) s.tells);
@@ -154,18 +155,18 @@ undone-took plan is old mid new i f allowed records back undone =
     (sym (ap (λ (x : State). verdict x i) state) ∙ allowed, subst (λ (w : Whole). Follows plan w is) (sym same) f)
 
 -- what became of an input that the bench took, once it was to be kept
-pub kept-so : (r : Result (Unit {0}) Refusal) (given : Setup) (log : List LogRow) (is : List Input) (old new : OnCourse) (mid : Held) (tick : ℕ) (i : Input) → Stands given log old is → Keeps old.mode → new.mode ≡ old.mode → new.rows ≡ old.rows → new.acts ≡ old.acts → new.told.told ≡ old.told.told
+pub kept-so : (r : Result (Unit {0}) Refusal) (given : Setup) (log : List LogRow) (is : List Input) (old new : OnCourse) (mid : Held) (tick : ℕ) (i : Input) → Stands given log old is → Keeps old.mode → new.mode ≡ old.mode → new.rows ≡ old.rows → new.acts ≡ old.acts → new.is_wide ≡ old.is_wide → new.told.told ≡ old.told.told
     → tick ≡ old.bench.tick → verdict (state_of old.bench) i ≡ None → state_of mid ≡ step (state_of old.bench) i → mid.records ≡ record_of i (state_of old.bench) (state_of mid) ∷ old.bench.records
     → earlier (whole mid) 1 ≡ whole old.bench → (tells_in new.mode ≡ true → new.news ≡ events_of (usual_after (last_row is)) (replay given.plan is) i)
     → OnOk r (new.bench ≡ mid) → OnOk r (new.kept.kept ≡ with_input i tick old.kept.kept)
     → OnErr r ((newest : Change) (others : List Change) → mid.records ≡ newest ∷ others → whole new.bench ≡ earlier (whole mid) 1) → OnErr r (new.kept ≡ old.kept) → IfErr r (λ e. e ≡ Memory)
     → Took r given log new is i
-kept-so (Ok u) given log is old new mid tick i s keeps mode rows acts same at allowed steps records back told bench kept undone still memory =
-    kept-took given log is old new tick i s keeps mode rows acts at
+kept-so (Ok u) given log is old new mid tick i s keeps mode rows acts wide same at allowed steps records back told bench kept undone still memory =
+    kept-took given log is old new tick i s keeps mode rows acts wide at
     (subst (λ (b : Held). BenchTook (Ok tt) given.plan b is i) (sym bench) (bench-took (Ok tt) given.plan is old.bench mid i s.follows allowed steps records back tt tt)) kept told
-kept-so (Err e) given log is old new mid tick i s keeps mode rows acts same at allowed steps records back told bench kept undone still memory =
+kept-so (Err e) given log is old new mid tick i s keeps mode rows acts wide same at allowed steps records back told bench kept undone still memory =
     subst (λ (x : Refusal). Took (Err x) given log new is i) (sym memory)
-    (kept-refused Memory given log is old new i s mode rows acts (ap (λ (k : Stock). k.kept) still) same (undone-took given.plan is old.bench mid new.bench i s.follows allowed records back undone))
+    (kept-refused Memory given log is old new i s mode rows acts wide (ap (λ (k : Stock). k.kept) still) same (undone-took given.plan is old.bench mid new.bench i s.follows allowed records back undone))
 
 -- ## Events that are recorded
 
@@ -180,9 +181,9 @@ none-said m form same tells = let never : false ≡ true = sym (ap tells_in same
 
 -- an input was taken, and its events recorded
 pub recorded-took : (form : LogForm) (given : Setup) (log : List LogRow) (is : List Input) (old new : OnCourse) (row : Row) (tick : ℕ) (news : List Event) (i : Input) → Stands given log old is → IsNext old.mode given is i
-    → old.mode ≡ Recording form → new.mode ≡ old.mode → new.rows ≡ old.rows → new.acts ≡ old.acts → tick ≡ old.bench.tick → row ≡ row_in_force old.rows tick → BenchTook (Ok tt) given.plan new.bench is i
+    → old.mode ≡ Recording form → new.mode ≡ old.mode → new.rows ≡ old.rows → new.acts ≡ old.acts → new.is_wide ≡ old.is_wide → tick ≡ old.bench.tick → row ≡ row_in_force old.rows tick → BenchTook (Ok tt) given.plan new.bench is i
     → news ≡ events_of (record { form = form; row = row }) (state_of old.bench) i → new.told.told ≡ with_told i tick news old.told.told → Took (Ok tt) given log new is i
-recorded-took form given log is old new row tick news i s next recording mode rows acts at there took tells records =
+recorded-took form given log is old new row tick news i s next recording mode rows acts wide at there took tells records =
     let was : (old.told.told ≡ telling form given.plan is) × AreOfLog given is = is-told old.mode form old.told.told given is recording s.tells in
     let state : state_of old.bench ≡ replay given.plan is = follows-state given.plan (whole old.bench) is s.follows in
     let now : tick ≡ (replay given.plan is).now = at ∙ tick-there given.plan is old.bench s.follows in
@@ -197,6 +198,7 @@ recorded-took form given log is old new row tick news i s next recording mode ro
         same = s.same;
         rows = rows ∙ s.rows;
         acts = acts ∙ s.acts;
+        wide = wide ∙ s.wide;
         follows = took.1;
         keeps = none-kept new.mode form new.kept.kept given.plan (i ∷ is) (mode ∙ recording);
         tells = subst (λ (m : Mode). IsTold m new.told.told given (i ∷ is)) (sym (mode ∙ recording)) (all, (there_next, was.1));
@@ -206,17 +208,17 @@ recorded-took form given log is old new row tick news i s next recording mode ro
 
 -- what became of an input that the bench took, once its events were to be recorded
 pub recorded-so : (r : Result (Unit {0}) Refusal) (form : LogForm) (given : Setup) (log : List LogRow) (is : List Input) (old new : OnCourse) (mid : Held) (row : Row) (tick : ℕ) (news : List Event) (i : Input) → Stands given log old is → IsNext old.mode given is i
-    → old.mode ≡ Recording form → new.mode ≡ old.mode → new.rows ≡ old.rows → new.acts ≡ old.acts → new.kept ≡ old.kept → tick ≡ old.bench.tick → row ≡ row_in_force old.rows tick → verdict (state_of old.bench) i ≡ None → state_of mid ≡ step (state_of old.bench) i
+    → old.mode ≡ Recording form → new.mode ≡ old.mode → new.rows ≡ old.rows → new.acts ≡ old.acts → new.is_wide ≡ old.is_wide → new.kept ≡ old.kept → tick ≡ old.bench.tick → row ≡ row_in_force old.rows tick → verdict (state_of old.bench) i ≡ None → state_of mid ≡ step (state_of old.bench) i
     → mid.records ≡ record_of i (state_of old.bench) (state_of mid) ∷ old.bench.records → earlier (whole mid) 1 ≡ whole old.bench → news ≡ events_of (record { form = form; row = row }) (state_of old.bench) i
     → OnOk r (new.bench ≡ mid) → OnOk r (new.told.told ≡ with_told i tick news old.told.told)
     → OnErr r ((newest : Change) (others : List Change) → mid.records ≡ newest ∷ others → whole new.bench ≡ earlier (whole mid) 1) → OnErr r (new.told.told ≡ old.told.told) → IfErr r (λ e. e ≡ Memory)
     → Took r given log new is i
-recorded-so (Ok u) form given log is old new mid row tick news i s next recording mode rows acts kept at there allowed steps records back tells bench told undone still memory =
-    recorded-took form given log is old new row tick news i s next recording mode rows acts at there
+recorded-so (Ok u) form given log is old new mid row tick news i s next recording mode rows acts wide kept at there allowed steps records back tells bench told undone still memory =
+    recorded-took form given log is old new row tick news i s next recording mode rows acts wide at there
     (subst (λ (b : Held). BenchTook (Ok tt) given.plan b is i) (sym bench) (bench-took (Ok tt) given.plan is old.bench mid i s.follows allowed steps records back tt tt)) tells told
-recorded-so (Err e) form given log is old new mid row tick news i s next recording mode rows acts kept at there allowed steps records back tells bench told undone still memory =
+recorded-so (Err e) form given log is old new mid row tick news i s next recording mode rows acts wide kept at there allowed steps records back tells bench told undone still memory =
     subst (λ (x : Refusal). Took (Err x) given log new is i) (sym memory)
-    (kept-refused Memory given log is old new i s mode rows acts (ap (λ (k : Stock). k.kept) kept) still (undone-took given.plan is old.bench mid new.bench i s.follows allowed records back undone))
+    (kept-refused Memory given log is old new i s mode rows acts wide (ap (λ (k : Stock). k.kept) kept) still (undone-took given.plan is old.bench mid new.bench i s.follows allowed records back undone))
 
 -- ## Memory
 
@@ -376,9 +378,9 @@ not-taken plan is cmd answers.Took none right taken = right
 not-taken plan is cmd a none right taken = cc
 
 -- the answer to a command that is none input
-pub answered-other : (given : Setup) (log : List LogRow) (is : List Input) (old new : OnCourse) (cmd : Cmd) (a : Answer) → Stands given log old is → ((i : Input) → cmd ≡ Apply i → ⊥) → new.mode ≡ old.mode → new.rows ≡ old.rows → new.acts ≡ old.acts
+pub answered-other : (given : Setup) (log : List LogRow) (is : List Input) (old new : OnCourse) (cmd : Cmd) (a : Answer) → Stands given log old is → ((i : Input) → cmd ≡ Apply i → ⊥) → new.mode ≡ old.mode → new.rows ≡ old.rows → new.acts ≡ old.acts → new.is_wide ≡ old.is_wide
     → ((plan : Plan) → play.Answers controller (start plan) watched (whole old.bench) cmd a (whole new.bench)) → Forgets kept_back DropsOther a new.bench.tick old.kept.kept new.kept.kept → Forgets told_back DropsMark a new.bench.tick old.told.told new.told.told → Answered given log new is cmd a
-answered-other given log is old new cmd a s none mode rows acts answers forgets untold =
+answered-other given log is old new cmd a s none mode rows acts wide answers forgets untold =
     let both : IsRight given.plan is cmd a × Follows given.plan (whole new.bench) (remaining_after given.plan is cmd a) = answers given.plan is s.follows in
     let at : new.bench.tick ≡ (replay given.plan (remaining_after given.plan is cmd a)).now = tick-there given.plan (remaining_after given.plan is cmd a) new.bench both.1 in
     record {
@@ -387,6 +389,7 @@ answered-other given log is old new cmd a s none mode rows acts answers forgets 
         same = s.same;
         rows = rows ∙ s.rows;
         acts = acts ∙ s.acts;
+        wide = wide ∙ s.wide;
         follows = both.1;
         keeps = subst (λ (m : Mode). IsKept m new.kept.kept given.plan (remaining_after given.plan is cmd a)) (sym mode)
             (still-kept given is cmd a new.bench.tick none both.0 at old.mode old.kept.kept new.kept.kept s.keeps forgets);
@@ -397,20 +400,20 @@ answered-other given log is old new cmd a s none mode rows acts answers forgets 
     }
 
 -- so where the bench was asked first, and then less was kept
-pub answered-there : (given : Setup) (log : List LogRow) (is : List Input) (old new : OnCourse) (mid : Held) (cmd : Cmd) (a : Answer) → Stands given log old is → ((i : Input) → cmd ≡ Apply i → ⊥) → new.mode ≡ old.mode → new.rows ≡ old.rows → new.acts ≡ old.acts → new.bench ≡ mid
+pub answered-there : (given : Setup) (log : List LogRow) (is : List Input) (old new : OnCourse) (mid : Held) (cmd : Cmd) (a : Answer) → Stands given log old is → ((i : Input) → cmd ≡ Apply i → ⊥) → new.mode ≡ old.mode → new.rows ≡ old.rows → new.acts ≡ old.acts → new.is_wide ≡ old.is_wide → new.bench ≡ mid
     → ((plan : Plan) → play.Answers controller (start plan) watched (whole old.bench) cmd a (whole mid)) → Forgets kept_back DropsOther a mid.tick old.kept.kept new.kept.kept → Forgets told_back DropsMark a mid.tick old.told.told new.told.told → Answered given log new is cmd a
-answered-there given log is old new mid cmd a s none mode rows acts bench answers forgets untold =
-    answered-other given log is old new cmd a s none mode rows acts
+answered-there given log is old new mid cmd a s none mode rows acts wide bench answers forgets untold =
+    answered-other given log is old new cmd a s none mode rows acts wide
     (λ plan. subst (λ (b : Held). play.Answers controller (start plan) watched (whole old.bench) cmd a (whole b)) (sym bench) (answers plan))
     (subst (λ (b : Held). Forgets kept_back DropsOther a b.tick old.kept.kept new.kept.kept) (sym bench) forgets)
     (subst (λ (b : Held). Forgets told_back DropsMark a b.tick old.told.told new.told.told) (sym bench) untold)
 
 -- ## At power-up
 
-pub course-begins : (given : Setup) (log : List LogRow) (course : OnCourse) → given.log ≡ log → course.rows ≡ log → Follows given.plan (whole course.bench) [] → course.kept.kept ≡ nothing_kept → course.told.told ≡ nothing_told → course.acts ≡ given.acts
+pub course-begins : (given : Setup) (log : List LogRow) (course : OnCourse) → given.log ≡ log → course.rows ≡ log → Follows given.plan (whole course.bench) [] → course.kept.kept ≡ nothing_kept → course.told.told ≡ nothing_told → course.acts ≡ given.acts → course.is_wide ≡ given.is_wide
     → Stands given log course []
-course-begins given log course same rows follows kept told acts =
-    record { same = same; rows = rows; follows = follows; keeps = as-kept course.mode course.kept.kept given.plan [] kept; tells = told-none course.mode course.told.told given told; acts = acts }
+course-begins given log course same rows follows kept told acts wide =
+    record { same = same; rows = rows; follows = follows; keeps = as-kept course.mode course.kept.kept given.plan [] kept; tells = told-none course.mode course.told.told given told; acts = acts; wide = wide }
   where
     told-none : (m : Mode) (x : Telling) (given : Setup) → x ≡ nothing_told → IsTold m x given []
     told-none Plain x given none = tt

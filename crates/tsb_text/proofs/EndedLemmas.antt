@@ -28,7 +28,7 @@ nothing-read given = record {
   whole = refl;
   short = omega arith;
   said = [];
-  going = record { left = []; held = []; unfinished = tt; carries = record { on = λ more text t. t } };
+  going = record { is_wide = given.is_wide; left = []; held = []; unfinished = tt; carries = record { on = λ more text t. t } };
 }
 
 -- there was no memory for the bench

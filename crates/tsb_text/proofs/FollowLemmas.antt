@@ -18,7 +18,6 @@ use Rattle.tsb_bench.specs.tsb_step.Runs.{replay}
 use Rattle.tsb_bench.specs.tsb_step.Signs.{watched}
 use Rattle.tsb_bench.specs.tsb_step.State.{State, restarted}
 use Rattle.tsb_bench.specs.tsb_step.Step.{step}
-use Rattle.tsb_bench.specs.tsb_step.Tick.{next as after_tick}
 use Rattle.tsb_bench.specs.tsb_step.declared.inputs.Input.{Input}
 use Rattle.tsb_bench.specs.tsb_step.declared.inputs.Input.TheVariants as inputs
 use Rattle.tsb_step.proofs.ClearLemmas.{one_later, plan_stays}
@@ -90,7 +89,7 @@ none-by-other s i no_tick no_clock no_commit = none-alike s (step s i) refl refl
 
 -- a bench is where it was, whatever follows its newest input
 pub stands-before : (given : Setup) (log : List LogRow) (course : OnCourse) (next : Option Input) (is : List Input) → Stands given log course is → Stands given log (record course { next = next }) is
-stands-before given log course next is s = record { same = s.same; rows = s.rows; follows = s.follows; keeps = s.keeps; tells = s.tells; acts = s.acts }
+stands-before given log course next is s = record { same = s.same; rows = s.rows; follows = s.follows; keeps = s.keeps; tells = s.tells; acts = s.acts; wide = s.wide }
 
 pub took-before : (given : Setup) (log : List LogRow) (course : OnCourse) (next : Option Input) (is : List Input) (i : Input) → Took (Ok tt) given log course is i → Took (Ok tt) given log (record course { next = next }) is i
 took-before given log course next is i t = (t.0, stands-before given log course next (i ∷ is) t.1, t.2)

@@ -12,7 +12,7 @@ use Rattle.tsb_lines.proofs.KeptLemmas.{feedless-kept, kept-tells}
 use Rattle.tsb_lines.proofs.LineLemmas.{lines-alone, lines-joined}
 use Rattle.tsb_text.specs.Answers.{Setup}
 use Rattle.tsb_text.specs.Ended.{AnswersWhole, Carries, EndsLine, IsBegun, IsWhole, Quits}
-use Rattle.tsb_text.specs.Replies.{Replies, Stand, says}
+use Rattle.tsb_text.specs.Replies.{Replies, Stand, laid, says}
 use Rattle.tsb_text.specs.Text.{IsAnswered, IsText}
 use Rattle.tsb_text.proofs.ReplyLemmas.{reply-given, reply-last, reply-on, reply-over, reply-quit}
 use Rattle.tsb_text.proofs.TextLemmas.{reading-returned, some-text, text-kept}
@@ -27,61 +27,61 @@ read-kept line = kept-tells (λ (v : List ℕ). reading (without_return v)) 202 
 whole-line : (line more : List ℕ) → HasNoFeed line → lines_of ((line ++ 10 ∷ []) ++ more) ≡ without_return line ∷ lines_of more
 whole-line line more f = ap lines_of (append_assoc line (10 ∷ []) more) ∙ lines-joined line more f
 
-line-said : (now left : Stand) (n : ℕ) (line answer more rest : List ℕ) → HasNoFeed line → says now n (asked 202 line) answer On left → IsText now.given left.inputs more rest
+line-said : (now left : Stand) (n : ℕ) (line answer more rest : List ℕ) → HasNoFeed line → says now n (asked 202 line) answer On left → IsText left.given left.inputs more rest
     → IsText now.given now.inputs ((line ++ 10 ∷ []) ++ more) (answer ++ rest)
 line-said now left n line answer more rest f told t =
     subst (λ (ls : List (List ℕ)). IsAnswered now.given now.inputs ls (answer ++ rest)) (sym (whole-line line more f))
-    (reply-on now left (reading (without_return line)) answer rest (λ new text. IsAnswered now.given new (lines_of more) text)
+    (reply-on now left (reading (without_return line)) answer rest (λ given new text. IsAnswered given new (lines_of more) text)
     (subst (λ (r : Reading). Replies now r answer On left) (read-kept line) told) t)
 
-runs-given : (from now : Stand) (lines : List (List ℕ)) (text : List ℕ) → Runs 202 says from lines text now → now.given ≡ from.given
-runs-given from now [] text r = ap (λ (s : Stand). s.given) r.1
-runs-given from now (line ∷ lines) text r = reply-given r.2 now (reading (asked 202 line)) r.1 On r.4 ∙ runs-given from r.2 lines r.0 r.3
+runs-given : (from now : Stand) (lines : List (List ℕ)) (text : List ℕ) → Runs 202 says from lines text now → now.given ≡ laid now.given.is_wide from.given
+runs-given from now [] text r = subst (λ (s : Stand). s.given ≡ laid s.given.is_wide from.given) (sym r.1) refl
+runs-given from now (line ∷ lines) text r =
+    reply-given r.2 now (reading (asked 202 line)) r.1 On r.4 ∙ ap (laid now.given.is_wide) (runs-given from r.2 lines r.0 r.3)
 
 -- what was said to these lines, and then a text of the bytes after them
-runs-said : (from now : Stand) (lines : List (List ℕ)) (text more rest : List ℕ) → HaveNoFeed lines → Runs 202 says from lines text now → IsText from.given now.inputs more rest
+runs-said : (from now : Stand) (lines : List (List ℕ)) (text more rest : List ℕ) → HaveNoFeed lines → Runs 202 says from lines text now → IsText now.given now.inputs more rest
     → IsText from.given from.inputs (fed lines ++ more) (text ++ rest)
 runs-said from now [] text more rest f r t =
-    subst (λ (v : List ℕ). IsText from.given from.inputs more (v ++ rest)) (sym r.0) (subst (λ (s : Stand). IsText from.given s.inputs more rest) r.1 t)
+    subst (λ (v : List ℕ). IsText from.given from.inputs more (v ++ rest)) (sym r.0) (subst (λ (s : Stand). IsText s.given s.inputs more rest) r.1 t)
 runs-said from now (line ∷ lines) text more rest f r t =
-    let same : r.2.given ≡ from.given = runs-given from r.2 lines r.0 r.3 in
-    let one : IsText from.given r.2.inputs ((line ++ 10 ∷ []) ++ more) (r.1 ++ rest) =
-    subst (λ (g : Setup). IsText g r.2.inputs ((line ++ 10 ∷ []) ++ more) (r.1 ++ rest)) same
-    (line-said r.2 now (suc (length lines)) line r.1 more rest f.0 r.4 (subst (λ (g : Setup). IsText g now.inputs more rest) (sym same) t)) in
+    let one : IsText r.2.given r.2.inputs ((line ++ 10 ∷ []) ++ more) (r.1 ++ rest) = line-said r.2 now (suc (length lines)) line r.1 more rest f.0 r.4 t in
     let all : IsText from.given from.inputs (fed lines ++ ((line ++ 10 ∷ []) ++ more)) (r.0 ++ (r.1 ++ rest)) = runs-said from r.2 lines r.0 ((line ++ 10 ∷ []) ++ more) (r.1 ++ rest) f.1 r.3 one in
     subst (λ (v : List ℕ). IsText from.given from.inputs v (text ++ rest)) (sym (append_assoc (fed lines) (line ++ 10 ∷ []) more))
     (subst (λ (v : List ℕ). IsText from.given from.inputs (fed lines ++ ((line ++ 10 ∷ []) ++ more)) v) (sym (append_assoc r.0 r.1 rest) ∙ ap (λ (v : List ℕ). v ++ rest) (sym r.5)) all)
 
 -- ## Bytes
 
-pub heard-given : (from : Stand) (bytes text : List ℕ) (n : ℕ) (now : Stand) (held : List ℕ) → Heard 202 says from bytes text n now held → now.given ≡ from.given
+pub heard-given : (from : Stand) (bytes text : List ℕ) (n : ℕ) (now : Stand) (held : List ℕ) → Heard 202 says from bytes text n now held → now.given ≡ laid now.given.is_wide from.given
 heard-given from bytes text n now held h = runs-given from now h.lines text h.runs
 
 -- what is held has no line feed
 heard-clean : (from : Stand) (bytes text : List ℕ) (n : ℕ) (now : Stand) (held : List ℕ) → Heard 202 says from bytes text n now held → HasNoFeed held
 heard-clean from bytes text n now held h = subst (λ (v : List ℕ). HasNoFeed v) (sym h.kept) (feedless-kept 202 h.rest h.unfinished)
 
-pub heard-carries : (from : Stand) (bytes text : List ℕ) (n : ℕ) (now : Stand) (held : List ℕ) → Heard 202 says from bytes text n now held → Carries from.given from.inputs bytes now.inputs held text
+pub heard-carries : (from : Stand) (bytes text : List ℕ) (n : ℕ) (now : Stand) (held : List ℕ) → Heard 202 says from bytes text n now held → Carries from.given from.inputs bytes now.given now.inputs held text
 heard-carries from bytes text n now held h = record {
   on = λ more rest t.
       subst (λ (v : List ℕ). IsText from.given from.inputs v (text ++ rest)) (sym (ap (λ (v : List ℕ). v ++ more) h.whole ∙ append_assoc (fed h.lines) h.rest more))
       (runs-said from now h.lines text (h.rest ++ more) rest h.ended h.runs
-      (text-kept from.given now.inputs h.rest more rest h.unfinished (subst (λ (v : List ℕ). IsText from.given now.inputs (v ++ more) rest) h.kept t)));
+      (text-kept now.given now.inputs h.rest more rest h.unfinished (subst (λ (v : List ℕ). IsText now.given now.inputs (v ++ more) rest) h.kept t)));
 }
 
 -- all whole lines of the bytes were answered
 pub heard-whole : (given : Setup) (bytes text : List ℕ) (n : ℕ) (now : Stand) (held : List ℕ) → Heard 202 says (record { given = given; inputs = [] }) bytes text n now held → AnswersWhole given bytes text
 heard-whole given bytes text n now held h = record {
+  is_wide = now.given.is_wide;
   left = now.inputs;
   held = held;
   unfinished = heard-clean (record { given = given; inputs = [] }) bytes text n now held h;
-  carries = heard-carries (record { given = given; inputs = [] }) bytes text n now held h;
+  carries = subst (λ (g : Setup). Carries given [] bytes g now.inputs held text) (heard-given (record { given = given; inputs = [] }) bytes text n now held h)
+      (heard-carries (record { given = given; inputs = [] }) bytes text n now held h);
 }
 
 -- what goes on begins a text
 pub heard-begun : (from : Stand) (bytes text : List ℕ) (n : ℕ) (now : Stand) (held : List ℕ) → Heard 202 says from bytes text n now held → IsBegun from.given from.inputs bytes text
 heard-begun from bytes text n now held h = record {
-  rest = λ more. let some : (t : List ℕ) × IsText from.given now.inputs (held ++ more) t = some-text from.given now.inputs (held ++ more) in
+  rest = λ more. let some : (t : List ℕ) × IsText now.given now.inputs (held ++ more) t = some-text now.given now.inputs (held ++ more) in
       (some.0, (heard-carries from bytes text n now held h).on more some.0 some.1);
 }
 
@@ -91,15 +91,14 @@ answered-text from bytes text end a =
     subst (λ (v : List ℕ). IsText from.given from.inputs v text) (append-nil bytes)
     (subst (λ (v : List ℕ). IsText from.given from.inputs (bytes ++ []) v) (sym a.all)
     ((heard-carries from bytes a.before a.number a.now a.held a.heard).on [] a.answer
-    (subst (λ (v : List ℕ). IsText from.given a.now.inputs v a.answer) (sym (append-nil a.held)) last)))
+    (subst (λ (v : List ℕ). IsText a.now.given a.now.inputs v a.answer) (sym (append-nil a.held)) last)))
   where
     said : IsAnswered a.now.given a.now.inputs (a.held ∷ []) a.answer
     said = reply-last a.flow a.now end (reading a.held) a.answer a.told
 
-    last : IsText from.given a.now.inputs a.held a.answer
+    last : IsText a.now.given a.now.inputs a.held a.answer
     last =
-        subst (λ (ls : List (List ℕ)). IsAnswered from.given a.now.inputs ls a.answer) (sym (lines-alone a.held (heard-clean from bytes a.before a.number a.now a.held a.heard)))
-        (subst (λ (g : Setup). IsAnswered g a.now.inputs (a.held ∷ []) a.answer) (heard-given from bytes a.before a.number a.now a.held a.heard) said)
+        subst (λ (ls : List (List ℕ)). IsAnswered a.now.given a.now.inputs ls a.answer) (sym (lines-alone a.held (heard-clean from bytes a.before a.number a.now a.held a.heard))) said
 
 -- ## A line that ends the session
 
@@ -112,12 +111,12 @@ over-whole from bytes text end o = record {
 }
   where
     said : (more : List ℕ) → IsAnswered o.now.given o.now.inputs (without_return o.held ∷ lines_of (o.more ++ more)) o.answer
-    said more = reply-over o.now end (reading (without_return o.held)) o.answer (λ new rest. IsAnswered o.now.given new (lines_of (o.more ++ more)) rest) o.told
+    said more = reply-over o.now end (reading (without_return o.held)) o.answer (λ given new rest. IsAnswered given new (lines_of (o.more ++ more)) rest) o.told
 
-    last : (more : List ℕ) → IsText from.given o.now.inputs (o.held ++ 10 ∷ (o.more ++ more)) o.answer
+    last : (more : List ℕ) → IsText o.now.given o.now.inputs (o.held ++ 10 ∷ (o.more ++ more)) o.answer
     last more =
-        subst (λ (ls : List (List ℕ)). IsAnswered from.given o.now.inputs ls o.answer) (sym (lines-joined o.held (o.more ++ more) (heard-clean from o.front o.before o.number o.now o.held o.heard)))
-        (subst (λ (g : Setup). IsAnswered g o.now.inputs (without_return o.held ∷ lines_of (o.more ++ more)) o.answer) (heard-given from o.front o.before o.number o.now o.held o.heard) (said more))
+        subst (λ (ls : List (List ℕ)). IsAnswered o.now.given o.now.inputs ls o.answer) (sym (lines-joined o.held (o.more ++ more) (heard-clean from o.front o.before o.number o.now o.held o.heard)))
+        (said more)
 
 ends-line : (lines : List (List ℕ)) → EndsLine (fed lines)
 ends-line [] = inl refl

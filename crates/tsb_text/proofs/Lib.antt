@@ -1,4 +1,5 @@
 pub mod LaterLemmas
+pub mod LineLemmas
 pub mod BackLemmas
 pub mod WatchLemmas
 pub mod TextLemmas

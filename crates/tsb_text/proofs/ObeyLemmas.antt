@@ -12,7 +12,7 @@ use Rattle.tsb_command_text.specs.declared.command.Command.{Command}
 use Rattle.tsb_command_text.specs.declared.command.Command.TheVariants.{Step, Show, Quit}
 use Rattle.tsb_bench.specs.tsb_step.Runs.{replay}
 use Rattle.tsb_dialog.specs.Said.{with_feed}
-use Rattle.tsb_text.specs.Answers.{Answers, Asked, GoesUnless, Leads, Setup, Steps, display_line, follower, follower_of, next_tick, refused_after, told}
+use Rattle.tsb_text.specs.Answers.{Answers, Asked, GoesUnless, Leads, Setup, Steps, follower, follower_of, line_in, next_tick, refused_after, told}
 use Rattle.tsb_text.specs.Obeys.{AsksOnce, Besides, Obeys, TakesTicks, before_line, news_of, nothing_besides, or_refusal, refusal_in, trail}
 use Rattle.tsb_text.specs.Tasks.{task_of}
 use Rattle.tsb_text.specs.declared.task.Task.{Task}
@@ -96,7 +96,7 @@ plain-once given is cmd text refusal new o =
       stop = o.stop;
       left = o.left;
       line = o.line
-          ∙ (λ j. (nothing-before given is cmd o.answer o.right j ++ nothing-behind given after next o.stop j) ++ (with_feed (told cmd o.answer (replay given.plan after)) ++ refused_after [] o.stop));
+          ∙ (λ j. (nothing-before given is cmd o.answer o.right j ++ nothing-behind given after next o.stop j) ++ (with_feed (told given.is_wide cmd o.answer (replay given.plan after)) ++ refused_after [] o.stop));
     }
 
 plain-more : (stop refusal : Option Refusal) (rest : List ℕ) (left new : List Input) (More Less : Type 0) → (More → Less) → GoesUnless stop More ((rest ≡ []) × (refusal ≡ stop) × (new ≡ left))
@@ -116,7 +116,7 @@ plain-ticks given (suc n) is text refusal new (inl t) =
         right = t.3.right;
         leads = t.3.leads;
         line = t.3.line
-            ∙ ap (λ (v : List ℕ). v ++ (with_feed (display_line (replay given.plan after)) ++ (refused_after [] t.1 ++ t.0))) (nothing-behind given after (follower given is (next_tick given is)) t.1);
+            ∙ ap (λ (v : List ℕ). v ++ (with_feed (line_in given.is_wide (replay given.plan after)) ++ (refused_after [] t.1 ++ t.0))) (nothing-behind given after (follower given is (next_tick given is)) t.1);
       },
       plain-more t.1 refusal t.0 t.2 new (TakesTicks given nothing_besides t.2 n t.0 refusal new) (Steps given t.2 n t.0 new) (λ more. plain-ticks given n t.2 t.0 refusal new more) t.4,
     )

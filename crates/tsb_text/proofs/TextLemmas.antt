@@ -15,12 +15,13 @@ use Rattle.tsb_bench.specs.tsb_step.Watches.{TellsLastChange}
 use Rattle.tsb_command_text.specs.declared.command.Command.{Command}
 use Rattle.tsb_command_text.specs.declared.command.Command.TheVariants.{Step, Show, Quit}
 use Rattle.tsb_command_text.specs.declared.command.Reading.{Reading}
-use Rattle.tsb_command_text.specs.declared.command.Reading.TheVariants.{Skip, Bad, Do}
+use Rattle.tsb_command_text.specs.declared.command.Reading.TheVariants.{Skip, Bad, Lines, Do}
 use Rattle.tsb_command_text.specs.Readings.{reading}
 use Rattle.tsb_lines.specs.Lines.{lines_of, split, ended, kept, onto_first, without_return, HasNoFeed}
 use Rattle.tsb_lines.proofs.KeptLemmas.{feedless-kept, kept-tells}
 use Rattle.tsb_lines.proofs.LineLemmas.{length-return}
 use Rattle.tsb_text.specs.Answers.{Answers, Asked, GoesUnless, Leads, Setup, Steps, follower, follower_of, next_tick}
+use Rattle.tsb_text.specs.Replies.{laid}
 use Rattle.tsb_text.specs.Text.{GoesOn, Says, IsAnswered, IsText}
 use Rattle.tsb_bench.proofs.tsb_step.RefusalLemmas.{refuses}
 use Rattle.tsb_text.proofs.WatchLemmas.{some-change}
@@ -106,16 +107,18 @@ pub some-more : (c : Command) (Rest : List ℕ → Type 0) → (t : List ℕ) ×
 some-more Quit Rest k = ([], refl)
 some-more c Rest k = k
 
-pub some-says : (given : Setup) (r : Reading) (is : List Input) (Rest : List Input → List ℕ → Type 0) → ((new : List Input) → (t : List ℕ) × Rest new t) → (t : List ℕ) × Says given r is t Rest
-some-says given Skip is Rest k = k is
-some-says given Bad is Rest k = (_, ((k is).0, refl, (k is).1))
+pub some-says : (given : Setup) (r : Reading) (is : List Input) (Rest : Setup → List Input → List ℕ → Type 0) → ((now : Setup) (new : List Input) → (t : List ℕ) × Rest now new t)
+    → (t : List ℕ) × Says given r is t Rest
+some-says given Skip is Rest k = k given is
+some-says given Bad is Rest k = (_, ((k given is).0, refl, (k given is).1))
+some-says given (Lines is_wide) is Rest k = (_, ((k (laid is_wide given) is).0, refl, (k (laid is_wide given) is).1))
 some-says given (Do c) is Rest k = let a : (text : List ℕ) × (left : List Input) × Answers given is c text left = some-answer given is c in
-    let more : (t : List ℕ) × GoesOn c (Rest a.1) t = some-more c (Rest a.1) (k a.1) in
+    let more : (t : List ℕ) × GoesOn c (Rest given a.1) t = some-more c (Rest given a.1) (k given a.1) in
     (a.0 ++ more.0, (a.0, more.0, a.1, a.2, refl, more.1))
 
 pub some-answered : (given : Setup) (ls : List (List ℕ)) (is : List Input) → (t : List ℕ) × IsAnswered given is ls t
 some-answered given [] is = ([], refl)
-some-answered given (l ∷ ls) is = some-says given (reading l) is (λ new rest. IsAnswered given new ls rest) (λ new. some-answered given ls new)
+some-answered given (l ∷ ls) is = some-says given (reading l) is (λ now new rest. IsAnswered now new ls rest) (λ now new. some-answered now ls new)
 
 pub some-text : (given : Setup) (is : List Input) (bytes : List ℕ) → (t : List ℕ) × IsText given is bytes t
 some-text given is bytes = some-answered given (lines_of bytes) is
@@ -157,11 +160,11 @@ kept-first : (given : Setup) (is : List Input) (line l : List ℕ) (ls : List (L
 kept-first given is line l [] t a =
     let same : reading (kept 202 line ++ l) ≡ reading (line ++ l) =
     kept-tells (λ (v : List ℕ). reading (v ++ l)) 202 Bad (λ v long. let all : length (v ++ l) ≡ length v + length l = length-append v l in reading-long (v ++ l) (omega (arith, all, long))) line in
-    subst (λ (r : Reading). Says given r is t (λ new rest. rest ≡ [])) same a
+    subst (λ (r : Reading). Says given r is t (λ now new rest. rest ≡ [])) same a
 kept-first given is line l (k ∷ ks) t a =
     let same : reading (without_return (kept 202 line ++ l)) ≡ reading (without_return (line ++ l)) =
     kept-tells (λ (v : List ℕ). reading (without_return (v ++ l))) 202 Bad (λ v long. let all : length (v ++ l) ≡ length v + length l = length-append v l in reading-returned (v ++ l) (omega (arith, all, long))) line in
-    subst (λ (r : Reading). Says given r is t (λ new rest. IsAnswered given new (ended (k ∷ ks)) rest)) same a
+    subst (λ (r : Reading). Says given r is t (λ now new rest. IsAnswered now new (ended (k ∷ ks)) rest)) same a
 
 -- where bytes begin with a line, what is kept of it serves
 pub text-kept : (given : Setup) (is : List Input) (line more t : List ℕ) → HasNoFeed line → IsText given is (kept 202 line ++ more) t → IsText given is (line ++ more) t

@@ -1,5 +1,5 @@
 -- How a session ends: what it has written for the bytes that it has read.
-use Rattle.std.specs.Prelude.{◌≡◌, ◌⊎◌, ◌↔◌, ◌<◌, ◌≤◌, ℕ, List, [], ◌∷◌, ◌++◌, length, take, Option, Result, Ok, Err}
+use Rattle.std.specs.Prelude.{◌≡◌, ◌⊎◌, ◌↔◌, ◌<◌, ◌≤◌, ℕ, Bool, List, [], ◌∷◌, ◌++◌, length, take, Option, Result, Ok, Err}
 use Rattle.std.specs.Io.KnownBytes.{Appends, Consumes, IsAtEnd}
 use Rattle.tsb_bench.specs.tsb_step.declared.inputs.Input.{Input}
 use Rattle.tsb_command_text.specs.declared.command.Command.TheVariants.{Quit}
@@ -9,11 +9,13 @@ use Rattle.tsb_lines.specs.Lines.{HasNoFeed, without_return}
 use Rattle.tsb_text.specs.declared.error.SessionError.{SessionError}
 use Rattle.tsb_text.specs.declared.error.SessionError.TheVariants.{Memory, Read, TooLarge}
 use Rattle.tsb_text.specs.Answers.{Setup}
+use Rattle.tsb_text.specs.Replies.{laid}
 use Rattle.tsb_text.specs.Text.{IsText}
 
--- what may be said for these bytes and any more is this, and then what may be said for those held and the more
-pub record Carries (given : Setup) (inputs : List Input) (bytes : List ℕ) (left : List Input) (held said : List ℕ) : Type 0 where
-  pub on : (more text : List ℕ) → IsText given left (held ++ more) text → IsText given inputs (bytes ++ more) (said ++ text)
+-- what may be said for these bytes and any more is this, and then what may be said, as things are then, for those held and
+-- the more
+pub record Carries (given : Setup) (inputs : List Input) (bytes : List ℕ) (now : Setup) (left : List Input) (held said : List ℕ) : Type 0 where
+  pub on : (more text : List ℕ) → IsText now left (held ++ more) text → IsText given inputs (bytes ++ more) (said ++ text)
 
 -- this is the text, whatever comes after these bytes
 pub record IsWhole (given : Setup) (inputs : List Input) (bytes said : List ℕ) : Type 0 where
@@ -47,12 +49,13 @@ EndedSo (Err e) given left read written =
     (IsAtEnd left × (rest : List ℕ) × IsText given [] read (written ++ rest)) ⊎ IsBegun given [] read written
 
 -- all whole lines of these bytes were answered: whatever comes after, a text is what was written, and then what may be
--- said for an unfinished line and the bytes after
+-- said for an unfinished line and the bytes after, with wide display lines or narrow ones
 pub record AnswersWhole (given : Setup) (bytes written : List ℕ) : Type 0 where
+  pub is_wide : Bool
   pub left : List Input
   pub held : List ℕ
   pub unfinished : HasNoFeed held
-  pub carries : Carries given [] bytes left held written
+  pub carries : Carries given [] bytes (laid is_wide given) left held written
 
 -- the commands went on up to the last read, which brought 4,096 bytes at most: those before it end no session
 pub record ReadsOn (given : Setup) (read : List ℕ) : Type 0 where

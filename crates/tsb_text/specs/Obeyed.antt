@@ -32,7 +32,8 @@ use Rattle.tsb_text.specs.Answers.{Leads, Setup}
 use Rattle.tsb_text.specs.Obeys.{Besides, if_told, news_of}
 
 -- a bench, the rows that its ticks take, what is kept or recorded of its inputs, what is done with them besides, and
--- the events of the newest. Then whether the schedule of the plan acts, whether display lines are wide, and what is yet to be taken after the newest input.
+-- the events of the newest. Then whether the schedule of the plan acts, whether display lines are wide, and what is yet to
+-- be taken after the newest input.
 pub record OnCourse : Type 0 where
   pub bench : Held
   pub rows : List LogRow

@@ -1,5 +1,5 @@
 //! A bench, with what is kept and told of the inputs that it takes.
-ghost use Rattle.std.specs.Prelude.{◌≡◌, ◌≤◌, ◌+◌, ◌∷◌, Err, IfErr, List, None, OnErr, OnOk, false, option_map, true};
+ghost use Rattle.std.specs.Prelude.{◌≡◌, ◌≤◌, ◌+◌, ◌∷◌, Err, IfErr, List, None, OnErr, OnOk, false, length, option_map, true};
 ghost use Rattle.tsb_bench.specs.Held.{state_of, whole};
 ghost use Rattle.tsb_bench.specs.tsb_history.History.{Change};
 ghost use Rattle.tsb_bench.specs.tsb_step.Past.{earlier};
@@ -118,6 +118,7 @@ impl<'a> Course<'a> {
     /// stays as it was. It takes no memory.
     pub fn line_text(&mut self, lines: &mut LineMaker) -> LineText
         ensures line { result ≡ line_in self.old.is_wide (state_of self.old.bench) }
+        ensures short { length result ≤ 70 }
         ensures same { self.new ≡ self.old }
     {
         shown_line(lines, self.is_wide, &mut self.bench)
@@ -173,6 +174,7 @@ impl<'a> Course<'a> {
         ensures rows { self.new.rows ≡ self.old.rows }
         ensures kept { self.new.kept ≡ self.old.kept }
         ensures acts { self.new.acts ≡ self.old.acts }
+        ensures wide { self.new.is_wide ≡ self.old.is_wide }
         ensures next { self.new.next ≡ self.old.next }
     {
         self.mode = match self.mode {
@@ -220,6 +222,7 @@ impl<'a> Course<'a> {
         ensures mode { self.new.mode ≡ self.old.mode }
         ensures rows { self.new.rows ≡ self.old.rows }
         ensures acts { self.new.acts ≡ self.old.acts }
+        ensures wide { self.new.is_wide ≡ self.old.is_wide }
     {
         if self.may_follow(&input) {
             return self.take_scheduled(input);
@@ -256,6 +259,7 @@ impl<'a> Course<'a> {
         ensures mode { self.new.mode ≡ self.old.mode }
         ensures rows { self.new.rows ≡ self.old.rows }
         ensures acts { self.new.acts ≡ self.old.acts }
+        ensures wide { self.new.is_wide ≡ self.old.is_wide }
     {
         let before = self.bench.action();
         self.next = None;
@@ -276,6 +280,7 @@ impl<'a> Course<'a> {
         ensures mode { self.new.mode ≡ self.old.mode }
         ensures rows { self.new.rows ≡ self.old.rows }
         ensures acts { self.new.acts ≡ self.old.acts }
+        ensures wide { self.new.is_wide ≡ self.old.is_wide }
     {
         match self.next.take() {
             None => Ok(false),
@@ -302,6 +307,7 @@ impl<'a> Course<'a> {
         ensures mode { self.new.mode ≡ self.old.mode }
         ensures rows { self.new.rows ≡ self.old.rows }
         ensures acts { self.new.acts ≡ self.old.acts }
+        ensures wide { self.new.is_wide ≡ self.old.is_wide }
         ensures next { self.new.next ≡ self.old.next }
     {
         match self.mode {
@@ -324,6 +330,7 @@ impl<'a> Course<'a> {
         ensures mode { self.new.mode ≡ self.old.mode }
         ensures rows { self.new.rows ≡ self.old.rows }
         ensures acts { self.new.acts ≡ self.old.acts }
+        ensures wide { self.new.is_wide ≡ self.old.is_wide }
         ensures next { self.new.next ≡ self.old.next }
     {
         let tick = self.bench.now();
@@ -344,6 +351,7 @@ impl<'a> Course<'a> {
         ensures mode { self.new.mode ≡ self.old.mode }
         ensures rows { self.new.rows ≡ self.old.rows }
         ensures acts { self.new.acts ≡ self.old.acts }
+        ensures wide { self.new.is_wide ≡ self.old.is_wide }
         ensures next { self.new.next ≡ self.old.next }
     {
         let tick = self.bench.now();
@@ -367,6 +375,7 @@ impl<'a> Course<'a> {
         ensures mode { self.new.mode ≡ self.old.mode }
         ensures rows { self.new.rows ≡ self.old.rows }
         ensures acts { self.new.acts ≡ self.old.acts }
+        ensures wide { self.new.is_wide ≡ self.old.is_wide }
         ensures next { self.new.next ≡ self.old.next }
     {
         let tick = self.bench.now();
@@ -392,6 +401,7 @@ impl<'a> Course<'a> {
         ensures mode { self.new.mode ≡ self.old.mode }
         ensures rows { self.new.rows ≡ self.old.rows }
         ensures acts { self.new.acts ≡ self.old.acts }
+        ensures wide { self.new.is_wide ≡ self.old.is_wide }
         ensures next { self.new.next ≡ self.old.next }
     {
         if self.told.add(input, tick, &self.news).is_err() {
@@ -417,6 +427,7 @@ impl<'a> Course<'a> {
         ensures rows { self.new.rows ≡ self.old.rows }
         ensures news { self.new.news ≡ self.old.news }
         ensures acts { self.new.acts ≡ self.old.acts }
+        ensures wide { self.new.is_wide ≡ self.old.is_wide }
         ensures next { self.new.next ≡ self.old.next }
     {
         if self.kept.add(input, tick).is_err() {
@@ -435,6 +446,7 @@ impl<'a> Course<'a> {
         ensures mode { self.new.mode ≡ self.old.mode }
         ensures rows { self.new.rows ≡ self.old.rows }
         ensures acts { self.new.acts ≡ self.old.acts }
+        ensures wide { self.new.is_wide ≡ self.old.is_wide }
     {
         match command {
             Cmd::Apply(input) => match self.take(input) {
@@ -458,6 +470,7 @@ impl<'a> Course<'a> {
         ensures mode { self.new.mode ≡ self.old.mode }
         ensures rows { self.new.rows ≡ self.old.rows }
         ensures acts { self.new.acts ≡ self.old.acts }
+        ensures wide { self.new.is_wide ≡ self.old.is_wide }
         ensures next { self.new.next ≡ self.old.next }
     {
         let tick = self.bench.now();

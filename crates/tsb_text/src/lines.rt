@@ -29,7 +29,8 @@ pub fn line(bench: &Bench) -> ArrayString<64>
 /// The display line, without a line feed, or the wide one. Its letters are those of the line made before, where no head
 /// has changed. It takes no memory.
 pub fn line_text(lines: &mut LineMaker, is_wide: bool, bench: &Bench) -> LineText
-    ensures { result ≡ line_in is_wide (state_of bench.now) }
+    ensures line { result ≡ line_in is_wide (state_of bench.now) }
+    ensures short { length result ≤ 70 }
 {
     lines.line_text(
         is_wide,
@@ -44,6 +45,7 @@ pub fn line_text(lines: &mut LineMaker, is_wide: bool, bench: &Bench) -> LineTex
 /// was.
 pub(crate) fn shown_line(lines: &mut LineMaker, is_wide: bool, bench: &mut Bench) -> LineText
     ensures line { result ≡ line_in is_wide (state_of bench.old) }
+    ensures short { length result ≤ 70 }
     ensures same { bench.new ≡ bench.old }
 {
     let shown = bench.shown();

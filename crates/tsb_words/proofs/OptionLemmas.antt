@@ -39,28 +39,29 @@ pub flag_is : (f : Found) (id : Text) (o : Option Text) (b : Bool) → o ≡ fir
 flag_is f id o b e set = set ∙ ap is_set (sym (first_is f id o e))
 
 -- what `events` asks for
-pub getters_events : (f : Found) (asked : Option Wish) (from : Option Moment) (device file : Option Text)
-    → from ≡ moment_in (rows_of f) → device ≡ first_value f (codes "device") → file ≡ first_value f (codes "log")
-    → asked ≡ events_with from device file → asked ≡ events_in (rows_of f)
-getters_events f asked from device file from-is device-is file-is is =
-    is
-    ∙ (ap (λ (m : Option Moment). events_with m device file) from-is
-    ∙ (ap (λ (d : Option Text). events_with (moment_in (rows_of f)) d file) (sym (first_is f (codes "device") device device-is))
-    ∙ ap (λ (l : Option Text). events_with (moment_in (rows_of f)) (first_of (codes "device") (rows_of f)) l) (sym (first_is f (codes "log") file file-is))))
+pub getters_events : (f : Found) (asked : Option Wish) (from : Option Moment) (device file flag : Option Text) (is_wide : Bool)
+    → from ≡ moment_in (rows_of f) → device ≡ first_value f (codes "device") → file ≡ first_value f (codes "log") → flag ≡ first_value f (codes "wide") → is_wide ≡ is_set flag
+    → asked ≡ events_with from device file is_wide → asked ≡ events_in (rows_of f)
+getters_events f asked from device file flag is_wide from-is device-is file-is flag-is wide-is is =
+    let device-there : device ≡ first_of (codes "device") (rows_of f) = sym (first_is f (codes "device") device device-is) in
+    let file-there : file ≡ first_of (codes "log") (rows_of f) = sym (first_is f (codes "log") file file-is) in
+    let wide-there : is_wide ≡ is_set (first_of (codes "wide") (rows_of f)) = flag_is f (codes "wide") flag is_wide flag-is wide-is in
+    is ∙ (λ j. events_with (from-is j) (device-there j) (file-there j) (wide-there j))
 
 -- and what `diagram` asks for
-pub getters_diagram : (f : Found) (asked : Option Wish) (file title seconds from events : Option Text) (said : Option (Option ℕ)) (begun : Option (Option Moment))
-    → file ≡ first_value f (codes "log") → title ≡ first_value f (codes "title") → seconds ≡ first_value f (codes "seconds-per-line")
+pub getters_diagram : (f : Found) (asked : Option Wish) (file flag title seconds from events : Option Text) (is_wide : Bool) (said : Option (Option ℕ)) (begun : Option (Option Moment))
+    → file ≡ first_value f (codes "log") → flag ≡ first_value f (codes "wide") → is_wide ≡ is_set flag → title ≡ first_value f (codes "title") → seconds ≡ first_value f (codes "seconds-per-line")
     → from ≡ first_value f (codes "from") → events ≡ first_value f (codes "events") → said ≡ seconds_said seconds → begun ≡ from_said from
-    → asked ≡ diagram_with file title said begun events → asked ≡ diagram_in (rows_of f)
-getters_diagram f asked file title seconds from events said begun file-is title-is seconds-is from-is events-is said-is begun-is is =
+    → asked ≡ diagram_with file is_wide title said begun events → asked ≡ diagram_in (rows_of f)
+getters_diagram f asked file flag title seconds from events is_wide said begun file-is flag-is wide-is title-is seconds-is from-is events-is said-is begun-is is =
     let file-there : file ≡ first_of (codes "log") (rows_of f) = sym (first_is f (codes "log") file file-is) in
+    let wide-there : is_wide ≡ is_set (first_of (codes "wide") (rows_of f)) = flag_is f (codes "wide") flag is_wide flag-is wide-is in
     let title-there : title ≡ first_of (codes "title") (rows_of f) = sym (first_is f (codes "title") title title-is) in
     let said-there : said ≡ seconds_said (first_of (codes "seconds-per-line") (rows_of f)) =
     said-is ∙ ap seconds_said (sym (first_is f (codes "seconds-per-line") seconds seconds-is)) in
     let begun-there : begun ≡ from_said (first_of (codes "from") (rows_of f)) = begun-is ∙ ap from_said (sym (first_is f (codes "from") from from-is)) in
     let events-there : events ≡ first_of (codes "events") (rows_of f) = sym (first_is f (codes "events") events events-is) in
-    is ∙ (λ j. diagram_with (file-there j) (title-there j) (said-there j) (begun-there j) (events-there j))
+    is ∙ (λ j. diagram_with (file-there j) (wide-there j) (title-there j) (said-there j) (begun-there j) (events-there j))
 
 -- and what `review` asks for
 pub getters_review : (f : Found) (asked : Option Wish) (plan : Option Text) → plan ≡ first_value f (codes "PLAN") → asked ≡ review_with plan

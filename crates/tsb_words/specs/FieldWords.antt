@@ -27,8 +27,8 @@ pub data Wish : Type 0 where
   recording : Moment → List ℕ → List ℕ → List ℕ → RecordManner → Wish
   -- events from this moment on, of this device, with the log in this file, of wide display lines or of others
   events : Moment → List ℕ → Option (List ℕ) → Bool → Wish
-  -- a diagram with the log in this file, of wide display lines or of others, with this title and so many seconds a line. It begins at this moment, and has the
-  -- ends of greens in the event log of this file.
+  -- a diagram with the log in this file, of wide display lines or of others, with this title and so many seconds a line. It
+  -- begins at this moment, and has the ends of greens in the event log of this file.
   diagram : Option (List ℕ) → Bool → Option (List ℕ) → Option ℕ → Option Moment → Option (List ℕ) → Wish
   -- a review of the plan in this file
   reviewing : List ℕ → Wish
@@ -36,6 +36,8 @@ pub data Wish : Type 0 where
   weekly : List ℕ → ℕ → Bool → Wish
   -- the worksheet of the plan in this file
   worksheet : List ℕ → Wish
+  -- the card of the plan in this file, or what the card in the other one has otherwise, where one is named
+  card : List ℕ → Option (List ℕ) → Wish
 
 -- the time of day at which a week begins
 abbrev pub midnight : List ℕ
@@ -73,10 +75,11 @@ seen_log asked = record {
 abbrev pub seen : Asked → Wish
 seen (asks.Log asked) = log (seen_log asked)
 seen (asks.Record asked) = recording asked.from asked.device.now asked.plan.now asked.log.now asked.manner
-seen (asks.Events from device file is_wide) = events from device.now (option_map (λ name. name.now) file) is_wide
+seen (asks.Events asked) = events asked.from asked.device.now (option_map (λ name. name.now) asked.log) asked.is_wide
 seen (asks.Diagram asked) =
     diagram (option_map (λ name. name.now) asked.log) asked.is_wide (option_map (λ name. name.now) asked.title) asked.seconds_per_line asked.from
     (option_map (λ name. name.now) asked.events)
 seen (asks.Review plan) = reviewing plan.now
 seen (asks.Schedule plan week svg) = weekly plan.now week svg
 seen (asks.Worksheet plan) = worksheet plan.now
+seen (asks.Card plan against) = card plan.now (option_map (λ name. name.now) against)

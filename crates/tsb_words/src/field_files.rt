@@ -84,6 +84,19 @@ pub struct RecordAsked<'a> {
     pub manner: RecordManner,
 }
 
+/// What the words of `events` ask for.
+#[derive(Clone, Copy)]
+pub struct EventsAsked<'a> {
+    /// The moment at which tick 1 begins.
+    pub from: Moment,
+    /// The device that the events are of, which a line can name (`can_be_written`).
+    pub device: &'a str,
+    /// The file of the log of inputs.
+    pub log: Option<&'a str>,
+    /// Whether display lines are wide.
+    pub is_wide: bool,
+}
+
 /// What the words of `diagram` ask for.
 #[derive(Clone, Copy)]
 pub struct DiagramAsked<'a> {
@@ -109,16 +122,7 @@ pub enum Asked<'a> {
     /// Events of a controller's log, told by a run of commands.
     Record(RecordAsked<'a>),
     /// Events of a controller's log, made from display lines.
-    Events {
-        /// The moment at which tick 1 begins.
-        from: Moment,
-        /// The device that the events are of, which a line can name (`can_be_written`).
-        device: &'a str,
-        /// The file of the log of inputs.
-        log: Option<&'a str>,
-        /// Whether display lines are wide.
-        is_wide: bool,
-    },
+    Events(EventsAsked<'a>),
     /// A diagram of display lines.
     Diagram(DiagramAsked<'a>),
     /// A review of a plan.
@@ -156,8 +160,9 @@ pub enum Asked<'a> {
 /// CHANNEL=DETECTOR` and `--preempt CHANNEL=INPUT`; `record` has `--from TIME`, `--device ID`, and the files of a plan and a
 /// log, and may have `--go-on`, `--recalls`, `--outputs` and `--no-clock`; `events` has `--from TIME` and `--device ID`,
 /// and may have `--log LOG` and `--wide`; `diagram` may have `--log LOG`, `--wide`, `--title TEXT`, `--seconds-per-line N`,
-/// and `--from TIME`, and with that `--events FILE`; `review` has the file of a plan; `schedule` has the file of a plan, and `--week DATE`,
-/// and may have `--svg`; `worksheet` has the file of a plan; `card` has the file of a plan, and may have `--against FILE`.
+/// and `--from TIME`, and with that `--events FILE`; `review` has the file of a plan; `schedule` has the file of a plan,
+/// and `--week DATE`, and may have `--svg`; `worksheet` has the file of a plan; `card` has the file of a plan, and may have
+/// `--against FILE`.
 /// Options come in any order, and `--NAME=VALUE` is `--NAME VALUE`. A value that begins with a hyphen comes after `=`. All
 /// else is `Bad`, and so are a request for help and a device of `record` or `events` with a double quote, an end of a line
 /// or over 900 bytes. `Memory` may come in place of every answer, as `clap` allocates. Where it takes the words, only those
@@ -369,12 +374,12 @@ fn events_with<'a>(
     if !can_be_written(device.as_bytes()) {
         return None;
     }
-    Some(Asked::Events {
+    Some(Asked::Events(EventsAsked {
         from,
         device,
         log,
         is_wide,
-    })
+    }))
 }
 
 /// What `diagram` asks for, with these options.

@@ -6,8 +6,8 @@ mod texts;
 
 use std::convert::AsStr;
 use texts::{
-    DIAGRAM_HELP, EVENTS_HELP, FIELD_HELP, FIELD_VERSION, LIVE_HELP, LIVE_VERSION, LOG_HELP,
-    CARD_HELP, RECORD_HELP, REVIEW_HELP, SCHEDULE_HELP, WORKSHEET_HELP,
+    CARD_HELP, DIAGRAM_HELP, EVENTS_HELP, FIELD_HELP, FIELD_VERSION, LIVE_HELP, LIVE_VERSION,
+    LOG_HELP, RECORD_HELP, REVIEW_HELP, SCHEDULE_HELP, WORKSHEET_HELP,
 };
 
 /// The page that words of `tsb_live` ask for, by `--version` or `--help` alone. The first word is the program's name.

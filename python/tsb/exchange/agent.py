@@ -7,23 +7,27 @@ refuses has changed nothing, of a request with several values none of them.
 import enum
 from bisect import bisect_right
 from collections.abc import Callable, Sequence
+from datetime import timedelta
 from typing import NamedTuple
 
 from tsb.bench import Bench
-from tsb.errors import BadCommand, Refused
-from tsb.exchange.forms import Set, Value
+from tsb.errors import BadCommand, OutOfRange, Refused
+from tsb.clock import words
+from tsb.exchange.forms import Oid, Set, Value
 from tsb.exchange.live import FREE, getters
-from tsb.exchange.objects import ASC, GLOBAL, Oid, leaf_of, plan_leaves, row_of
-from tsb.manual import NEWEST
+from tsb.exchange.objects import ASC, GLOBAL, TIME, leaf_of, plan_leaves, row_of
+from tsb.manual import NEWEST, OBJECTS
 from tsb.plan import Plan
 from tsb.rows import PREEMPTS
-from tsb.status import Status
+from tsb.status import EPOCH, Status
 from tsb.values import object_of, parts_of
 
 STATION = 1  # of the desk
 LARGEST = 65_535  # index that the bench is asked for: it refuses those beyond its own
+SECONDS = (1 << 32) - 1  # that globalTime can have
 PATTERN_CONTROL: Oid = (*ASC, 4, 14, 0)
 PREEMPT_CONTROL: Oid = (*ASC, 6, 3, 1, 2)
+CLOCK: Oid = (*TIME, 1, 0)
 TRANSACTION: Oid = (*GLOBAL, 2, 1, 0)
 VERIFY_STATUS: Oid = (*GLOBAL, 2, 6, 0)
 VERIFY_ERROR: Oid = (*GLOBAL, 2, 7, 0)
@@ -128,7 +132,8 @@ class Agent:
 
     def _plan_now(self) -> Plan:
         if self._plan is None:
-            self._plan = self._bench.plan
+            # (of the newest version, which has all objects)
+            self._plan = self._bench.plan.wide(NEWEST)
         return self._plan
 
     def _status_now(self) -> Status:
@@ -148,7 +153,9 @@ class Agent:
         try:
             alone: list[int] = []
             for place, (oid, value) in enumerate(values, 1):
-                if oid in self._own:
+                if oid == CLOCK:
+                    request.command(f"clock {_moment(value)}")
+                elif oid in self._own:
                     self._set_own(request, oid, value)
                 elif (sets := sets_of(oid, value)) is not None:
                     if self._state is State.NORMAL and not alone:
@@ -274,6 +281,17 @@ def _index(name: str, index: object) -> int:
     return found
 
 
+def _moment(value: Value) -> str:
+    """The time of a clock that shows so many seconds since 1970; `NotSet` where a clock
+    has no such time."""
+    if not isinstance(value, int) or not 0 <= value <= SECONDS:
+        raise NotSet(Fault.BAD_VALUE)
+    try:
+        return words(EPOCH + timedelta(seconds=value))
+    except OutOfRange:
+        raise NotSet(Fault.BAD_VALUE) from None
+
+
 def sets_of(oid: Oid, value: Value) -> list[Set] | None:
     """The values of a plan that a value asks for; None where a plan has no such object.
     `NotSet` where it has no such value."""
@@ -283,9 +301,9 @@ def sets_of(oid: Oid, value: Value) -> list[Set] | None:
     form = leaf.column.form
     if form is None or any(not 1 <= it <= LARGEST for it in leaf.row):
         return None
-    if len(leaf.row) > 1 and not leaf.table.has(leaf.row):
+    if parts_of(OBJECTS[form.names[0]]) and not leaf.table.has(leaf.row):
         return None  # (the bench has one number for all parts of an index)
-    if isinstance(value, bytes) != form.is_octets:
+    if not isinstance(value, form.kind):
         raise NotSet(Fault.BAD_VALUE)
     sets, lost = form.read(value, row_of(leaf))
     if lost:

@@ -6,17 +6,27 @@ plan's objects that a value asks for. What a plan has no place for is in `lost`.
 
 from collections.abc import Mapping, Sequence
 from dataclasses import dataclass
-from typing import NamedTuple, Protocol
+from typing import ClassVar, NamedTuple, Protocol
 
 from tsb.plan import Plan
 from tsb.values import Index
 
-#: A value as SNMP has it: an INTEGER, or octets.
-Value = int | bytes
+#: An object identifier: 1.3.6.1.
+Oid = tuple[int, ...]
+#: A value as SNMP has it: an INTEGER, octets, or an object identifier.
+Value = int | bytes | Oid
+#: What is said of the kinds of values, and which value of a kind is for nothing.
+KINDS: Mapping[type, str] = {int: "a number", bytes: "octets", tuple: "an OID"}
+NOTHING: Mapping[type, Value] = {int: 0, bytes: b"", tuple: (0, 0)}
 #: The index of a row: (phase), or (table, phase).
 Row = tuple[int, ...]
 PHASES = range(1, 17)
 PLACES = 16  # of a sequence, in each ring
+HALF = 16  # bits in each half of the days of a month
+
+
+class Unsigned(int):
+    """A number as SNMP has it where it may have 32 bits without a sign: a Gauge32."""
 
 
 class Set(NamedTuple):
@@ -37,9 +47,8 @@ class Read(NamedTuple):
 class Form(Protocol):
     """A form of values."""
 
-    @property
-    def is_octets(self) -> bool:
-        """Whether its values are octets."""
+    #: What its values are: `int`, `bytes` or `tuple`.
+    kind: ClassVar[type]
 
     @property
     def names(self) -> tuple[str, ...]:
@@ -67,11 +76,7 @@ class _Object:
     """A form of one object of a plan."""
 
     name: str
-
-    @property
-    def is_octets(self) -> bool:
-        """Numbers."""
-        return False
+    kind: ClassVar[type] = int
 
     @property
     def names(self) -> tuple[str, ...]:
@@ -83,10 +88,7 @@ class _Object:
 class _Octets(_Object):
     """A form of one object of a plan, in octets."""
 
-    @property
-    def is_octets(self) -> bool:
-        """Octets."""
-        return True
+    kind: ClassVar[type] = bytes
 
 
 @dataclass(frozen=True)
@@ -171,12 +173,55 @@ class Order(_Octets):
 
 
 @dataclass(frozen=True)
+class Dates(_Object):
+    """Days of the month in one number over there: a plan has two halves of it, the bits
+    of the days up to 15 and those from 16 on."""
+
+    def written(self, plan: Plan, row: Row) -> Value:
+        """Both halves."""
+        values, (entry,) = plan[self.name], row
+        return Unsigned(values[1, entry] | values[2, entry] << HALF)
+
+    def read(self, value: Value, row: Row) -> Read:
+        """A value for each half. What an INTEGER can't hold is below 0 in one."""
+        assert isinstance(value, int)
+        if not -(1 << 2 * HALF - 1) <= value < 1 << 2 * HALF:
+            return Read([], [f"{self.name} has 32 bits"])
+        (entry,) = row
+        of = enumerate((value, value >> HALF), 1)
+        lower = (1 << HALF) - 1
+        return Read([Set(self.name, (half, entry), it & lower) for half, it in of], [])
+
+
+@dataclass(frozen=True)
+class RowOf(_Object):
+    """A number that is the OID of a row over there: what is before its last number is
+    `rows`, and for 0 it is the OID of nothing."""
+
+    rows: Oid
+    of: str
+    kind: ClassVar[type] = tuple
+
+    def written(self, plan: Plan, row: Row) -> Value:
+        """The OID of the row."""
+        number = plan[self.name][index_of(row)]
+        return (*self.rows, number) if number else NOTHING[tuple]
+
+    def read(self, value: Value, row: Row) -> Read:
+        """The number of the row."""
+        assert isinstance(value, tuple)
+        if value != NOTHING[tuple] and value[:-1] != self.rows:
+            return Read([], [f"it names no row of {self.of}"])
+        return Read([Set(self.name, index_of(row), value[-1])], [])
+
+
+@dataclass(frozen=True)
 class Options:
     """Bits, each an object of the plan or a name of what there is no object for."""
 
     bits: Mapping[int, str]
     others: Mapping[int, str]
-    is_octets = False
+    kind: ClassVar[type] = int
 
     @property
     def names(self) -> tuple[str, ...]:

@@ -1,18 +1,19 @@
-"""What of a running bench NTCIP 1202 has as a status: a value for each OID.
+"""What of a running bench NTCIP 1201 and 1202 have as a status: a value for each OID.
 
 Sets of phases, overlaps and detectors are sums, of eight in a group: 1 for the first,
 2 for the second, 4, 8 and so on.
 """
 
 from collections.abc import Callable, Iterator
+from functools import lru_cache
 
-from tsb.exchange.forms import Value
-from tsb.exchange.objects import ASC, TABLES, Oid, plan_leaves
+from tsb.exchange.forms import Oid, Unsigned, Value
+from tsb.exchange.objects import ASC, TABLES, TIME, plan_leaves
 from tsb.manual import OBJECTS
-from tsb.plan import Plan
+from tsb.plan import Plan, Turn
 from tsb.rows import PREEMPTS, VEHICLES
-from tsb.status import Status
-from tsb.values import RINGS, SEQUENCES
+from tsb.status import EPOCH, Status
+from tsb.values import RINGS, SECOND, SEQUENCES, parts_of
 from tsb.values import TABLES as SPLIT_TABLES
 
 GROUP = 8  # phases, overlaps or detectors in a group
@@ -79,13 +80,55 @@ def _sync(plan: Plan, status: Status) -> int:
     return (status.coord_sync_status or 0) // 10
 
 
+@lru_cache(maxsize=4)
+def _week(plan: str, day: str) -> list[Turn]:
+    """What a plan's schedule runs in the week from a day on."""
+    return Plan.of_text(plan).week(day)
+
+
+def turn(plan: Plan, status: Status) -> Turn | None:
+    """What the schedule runs now, as the bench says it of the plan; None without a clock
+    and without a schedule."""
+    now = status.global_time
+    if now is None or not plan.has_schedule:
+        return None
+    *_, last = (it for it in _week(plan.text, f"{now:%Y-%m-%d}") if it.begin <= now)
+    return last
+
+
+def _of_turn(name: str) -> Getter:
+    """A number of what the schedule runs, 0 for none."""
+
+    def getter(plan: Plan, status: Status) -> Value:
+        found = turn(plan, status)
+        return 0 if found is None else int(getattr(found, name))
+
+    return getter
+
+
+def _time(plan: Plan, status: Status) -> Value:
+    """The seconds of the clock since 1970, as it shows them; 0 without a clock."""
+    now = status.global_time
+    return Unsigned(0 if now is None else (now - EPOCH) // SECOND)
+
+
 def getters() -> dict[Oid, Getter]:
     """What gives each value that is no plan's, by its OID."""
-    return {
-        ASC + place: getter
-        for part in (_sizes(), _indices(), _groups(), _states())
-        for place, getter in part
-    }
+    parts = (_sizes(), _groups(), _states())
+    found = {ASC + place: getter for part in parts for place, getter in part}
+    scheduled = {TIME + place: getter for place, getter in _schedule()}
+    return found | scheduled | dict(_indices())
+
+
+def _schedule() -> Iterator[tuple[Oid, Getter]]:
+    """The clock, how many rows a schedule has, and which of them are in force."""
+    events = parts_of(OBJECTS["dayPlanHour"])
+    yield (1, 0), _time
+    yield (3, 1, 0), _constant(OBJECTS["timeBaseScheduleMonth"].count)
+    yield (3, 3, 0), _constant(events["day plan"][0])
+    yield (3, 4, 0), _constant(events["event"][0])
+    yield (3, 6, 0), _of_turn("day_plan")
+    yield (3, 7, 0), _of_turn("entry")
 
 
 def _sizes() -> Iterator[tuple[Oid, Getter]]:
@@ -100,6 +143,7 @@ def _sizes() -> Iterator[tuple[Oid, Getter]]:
         ((4, 5, 0), OBJECTS["patternCycleTime"].count),
         ((4, 6, 0), PATTERNS),
         ((4, 8, 0), SPLIT_TABLES),
+        ((5, 2, 0), OBJECTS["timebaseAscPattern"].count),
         ((6, 1, 0), PREEMPTS),
         ((7, 1, 0), RINGS),
         ((7, 2, 0), SEQUENCES),
@@ -116,7 +160,7 @@ def _indices() -> Iterator[tuple[Oid, Getter]]:
         if id(table) in of_plan and table.keys:
             for row in table.rows():
                 for number, part in enumerate(row, 1):
-                    yield (*table.place, number, *row), _constant(part)
+                    yield (*table.root, number, *row), _constant(part)
 
 
 def _groups() -> Iterator[tuple[Oid, Getter]]:
@@ -140,6 +184,7 @@ def _states() -> Iterator[tuple[Oid, Getter]]:
     yield (4, 11, 0), lambda _, it: _state(it.local_free_status, FREE_STATES)
     yield (4, 12, 0), _cycle
     yield (4, 13, 0), _sync
+    yield (5, 4, 0), _of_turn("action")
     for number in range(1, PREEMPTS + 1):
         yield (6, 2, 1, 16, number), _preempt_state(number)
         yield (6, 3, 1, 1, number), _constant(number)

@@ -13,12 +13,11 @@ from pyasn1.codec.ber import decoder, encoder
 from pyasn1.error import PyAsn1Error
 from pyasn1.type import univ
 from pysnmp.error import PySnmpError
-from pysnmp.proto import api, rfc1905
+from pysnmp.proto import api, rfc1155, rfc1902, rfc1905
 
 from tsb.errors import Error
 from tsb.exchange.agent import Agent, Fault
-from tsb.exchange.forms import Value
-from tsb.exchange.objects import Oid
+from tsb.exchange.forms import Oid, Unsigned, Value
 
 V1, V2C = api.protoVersion1, api.protoVersion2c
 MOST = 128  # values of a request, and of an answer to a bulk request
@@ -28,6 +27,8 @@ TOO_BIG = 1
 ERRORS_2C = {Fault.NO_SUCH_NAME: 17, Fault.BAD_VALUE: 10, Fault.GENERAL: 5}
 #: What comes in place of a value where there is none.
 ENDS = (rfc1905.EndOfMibView, rfc1905.NoSuchObject, rfc1905.NoSuchInstance)
+#: The types of numbers that are not below 0.
+GAUGES = (rfc1155.Gauge, rfc1902.Gauge32, rfc1902.Unsigned32)
 #: What is raised of bytes that are no message.
 _BAD = (PyAsn1Error, PySnmpError, ValueError, TypeError, IndexError, OverflowError)
 
@@ -71,6 +72,11 @@ class _Message:
         """A value as a message has it."""
         if isinstance(value, bytes):
             return self.module.OctetString(value)
+        if isinstance(value, tuple):
+            return self.module.ObjectIdentifier(value)
+        if isinstance(value, Unsigned):
+            gauge = "Gauge" if self.version == V1 else "Gauge32"
+            return getattr(self.module, gauge)(value)
         return self.module.Integer(value)
 
     def failed(self, fault: Fault, place: int) -> _Answer:
@@ -134,9 +140,13 @@ def _set(agent: Agent, asked: _Message) -> _Answer:
 
 
 def _plain(value: Any) -> Value | None:
-    """A value that is a number or octets; None for others."""
+    """A value that is a number, octets or an OID; None for others."""
+    if isinstance(value, GAUGES):
+        return Unsigned(value)
     if isinstance(value, univ.Integer):
         return int(value)
+    if isinstance(value, univ.ObjectIdentifier):
+        return tuple(map(int, value))
     if isinstance(value, univ.OctetString) and not isinstance(value, univ.Null):
         return bytes(value)
     return None
@@ -242,6 +252,6 @@ def reply(datagram: bytes) -> Reply:
 def _printed(
     values: Sequence[tuple[Oid, Any]]
 ) -> Iterable[tuple[Oid, Value | None, str]]:
-    """Values with what is printed of those that are no number and no octets."""
+    """Values with what is printed of those of other types."""
     for oid, value in values:
         yield oid, _plain(value), f"{type(value).__name__}: {value.prettyPrint()}"

@@ -7,11 +7,12 @@ v02 and NTCIP 1201; its text is not theirs, and it imports no other file.
 from collections.abc import Iterable, Iterator
 
 from tsb.exchange import agent, live
-from tsb.exchange.forms import Choice
-from tsb.exchange.objects import ASC, GLOBAL, TABLES, Column, Oid, plan_leaves
+from tsb.exchange.forms import Choice, Dates, Oid
+from tsb.exchange.objects import ASC, GLOBAL, TABLES, TIME, Column, plan_leaves
 
 NAME = "TSB-ASC-MIB"
 NUMBER, OCTETS = "INTEGER (0..65535)", "OCTET STRING"
+UNSIGNED, ROW = "Gauge", "OBJECT IDENTIFIER"
 #: States that have names.
 STATES = {
     "localFreeStatus": live.FREE_STATES,
@@ -25,23 +26,25 @@ DATABASE = {
     "dbVerifyError": agent.VERIFY_ERROR,
 }
 #: What can be set beside a plan and a transaction.
-CONTROLS = ("systemPatternControl", "preemptControlState")
+CONTROLS = ("systemPatternControl", "preemptControlState", "globalTime")
 
 
 def text() -> str:
     """The text of the file."""
     lines = [f"{NAME} DEFINITIONS ::= BEGIN", "", *_root("asc", ASC)]
     lines += _root("global", GLOBAL)
+    lines += _root("globalTimeManagement", TIME)
     known = _columns()
     for table in TABLES:
+        root = "asc" if table.under == ASC else "globalTimeManagement"
         for number, key in enumerate(table.keys, 1):
             if (*table.root, number) in known:
-                lines += _object(key, NUMBER, False, "asc", (*table.place, number))
+                lines += _object(key, NUMBER, False, root, (*table.place, number))
         for number, column in sorted(table.columns.items()):
             if (*table.root, number) in known:
                 sets = column.form is not None or column.name in CONTROLS
                 place = (*table.place, number)
-                lines += _object(column.name, _syntax(column), sets, "asc", place)
+                lines += _object(column.name, _syntax(column), sets, root, place)
     return "\n".join([*lines, *_database(), "END", ""])
 
 
@@ -69,8 +72,10 @@ def _root(name: str, oid: Oid) -> Iterator[str]:
 def _syntax(column: Column) -> str:
     """The type of an object."""
     form = column.form
-    if form is not None and form.is_octets:
-        return OCTETS
+    if isinstance(form, Dates) or column.name == "globalTime":
+        return UNSIGNED
+    if form is not None and form.kind is not int:
+        return OCTETS if form.kind is bytes else ROW
     words = form.words if isinstance(form, Choice) else STATES.get(column.name, ())
     return _words(words) if words else NUMBER
 

@@ -1,4 +1,5 @@
-"""The objects of NTCIP 1202 v02 that a plan's objects are of, by their OIDs.
+"""The objects of NTCIP 1202 v02, and of the schedule in NTCIP 1201, that a plan's
+objects are of, by their OIDs.
 
 The tables are from memory of the standard: docs/use/EXCHANGE.md says so. `TABLES` has
 each table, and each group of objects without an index. A column has a `form` where a
@@ -11,22 +12,26 @@ from functools import cache
 
 from tsb.exchange.forms import (
     Choice,
+    Dates,
     Form,
     Number,
+    Oid,
     Options,
     Order,
     Phases,
     Row,
+    RowOf,
     Value,
 )
-from tsb.manual import OBJECTS
+from tsb.manual import NEWEST, OBJECTS
 from tsb.plan import Plan
 from tsb.values import parts_of
 
-Oid = tuple[int, ...]
 #: The object asc, actuated signal controllers, and global of NTCIP 1201.
 ASC: Oid = (1, 3, 6, 1, 4, 1, 1206, 4, 2, 1)
 GLOBAL: Oid = (1, 3, 6, 1, 4, 1, 1206, 4, 2, 6)
+#: Below global: globalTimeManagement, whose object 3 is the schedule.
+TIME: Oid = (*GLOBAL, 3)
 
 NO_PLACE = "a plan has no place for it"
 STATUS = "it is a status, and no part of a plan"
@@ -49,8 +54,8 @@ class Column:
 class Table:
     """A table of objects, or a group without an index.
 
-    `place` comes between ASC and the number of a column. `keys` are the names of the
-    index's parts, which are the first columns, and `like` is an object of a plan that
+    `place` comes between `under` and the number of a column. `keys` are the names of
+    the index's parts, which are the first columns, and `like` is an object of a plan that
     has an index for each row here; None for a group without an index.
     """
 
@@ -58,6 +63,7 @@ class Table:
     columns: Mapping[int, Column]
     keys: tuple[str, ...] = ()
     like: str | None = None
+    under: Oid = ASC
     sizes: Row = field(init=False)
 
     def __post_init__(self) -> None:
@@ -67,7 +73,7 @@ class Table:
     @property
     def root(self) -> Oid:
         """What the OIDs of all its objects begin with."""
-        return ASC + self.place
+        return self.under + self.place
 
     def has(self, row: Row) -> bool:
         """Whether a plan has this row."""
@@ -128,6 +134,13 @@ OPTIONS = Options(
         15: "added initial calculation",
     },
 )
+#: The table of actions, below asc.
+ACTIONS: Oid = (5, 3, 1)
+#: Those of flashing yellow arrows are of version 3 of the standard (uncertain).
+OVERLAP_TYPES = (
+    "other", "normal", "minusGreenYellow", "pedestrianNormal", "fYAThreeSection",
+    "fYAFourSection",
+)  # fmt: skip
 SPLIT_MODES = (
     "other", "none", "minimumVehicleRecall", "maximumVehicleRecall", "pedestrianRecall",
     "maximumVehicleAndPedestrianRecall", "phaseOmitted",
@@ -357,6 +370,19 @@ TABLES = (
         ("splitNumber", "splitPhase"),
         "splitTime",
     ),
+    Table(
+        (5,),
+        _none({1: "timebaseAscPatternSync"})
+        | _none({2: "maxTimebaseAscActions"}, None, SIZE)
+        | _none({4: "timebaseAscActionStatus"}, None, STATUS),
+    ),
+    Table(
+        ACTIONS,
+        _numbers({2: "timebaseAscPattern"})
+        | _none({3: "timebaseAscAuxillaryFunction", 4: "timebaseAscSpecialFunction"}),
+        ("timebaseAscActionNumber",),
+        "timebaseAscPattern",
+    ),
     Table((6,), _none({1: "maxPreempts"}, None, SIZE)),
     Table(
         (6, 2, 1),
@@ -413,19 +439,35 @@ TABLES = (
         ("sequenceNumber", "sequenceRingNumber"),
         "sequenceData",
     ),
+    Table((8,), _none({1: "maxChannels"}, None, SIZE)),
+    Table(
+        (8, 2, 1),
+        _numbers({2: "channelControlSource"})
+        | {
+            3: Column(
+                "channelControlType",
+                Choice(
+                    "channelControlType",
+                    {0: 1, 1: 1, 2: 2, 3: 3, 4: 4},
+                    ("other", "phaseVehicle", "phasePedestrian", "overlap"),
+                ),
+            )
+        }
+        | _none({4: "channelFlash", 5: "channelDim"}),
+        ("channelNumber",),
+        "channelControlSource",
+    ),
     Table((9,), _none({1: "maxOverlaps", 3: "maxOverlapStatusGroups"}, None, SIZE)),
     Table(
         (9, 2, 1),
         {
             2: Column(
                 "overlapType",
-                Choice(
-                    "overlapType", {0: 2, 1: 3}, ("other", "normal", "minusGreenYellow")
-                ),
+                Choice("overlapType", {0: 2, 1: 3, 2: 6}, OVERLAP_TYPES),
             )
         }
         | _lists({3: "overlapIncludedPhases", 4: "overlapModifierPhases"})
-        | _none(
+        | _numbers(
             {
                 5: "overlapTrailGreen",
                 6: "overlapTrailYellow",
@@ -447,6 +489,59 @@ TABLES = (
             STATUS,
         ),
         ("overlapStatusGroupNumber",),
+    ),
+    Table(
+        (),
+        _none({1: "globalTime", 6: "controllerLocalTime"}, None, STATUS)
+        | _none(
+            {
+                2: "globalDaylightSaving",
+                4: "globalLocalTimeDifferential",
+                5: "controllerStandardTimeZone",
+            },
+            None,
+        ),
+        under=TIME,
+    ),
+    Table(
+        (3,),
+        _none(
+            {
+                1: "maxTimeBaseScheduleEntries",
+                3: "maxDayPlans",
+                4: "maxDayPlanEvents",
+            },
+            None,
+            SIZE,
+        )
+        | _none({6: "dayPlanStatus", 7: "timeBaseScheduleTableStatus"}, None, STATUS),
+        under=TIME,
+    ),
+    Table(
+        (3, 2, 1),
+        _numbers({2: "timeBaseScheduleMonth", 3: "timeBaseScheduleDay"})
+        | {4: Column("timeBaseScheduleDate", Dates("timeBaseScheduleDate"))}
+        | _numbers({5: "timeBaseScheduleDayPlan"}),
+        ("timeBaseScheduleNumber",),
+        "timeBaseScheduleMonth",
+        TIME,
+    ),
+    Table(
+        (3, 5, 1),
+        _numbers({3: "dayPlanHour", 4: "dayPlanMinute"})
+        | {
+            5: Column(
+                "dayPlanActionNumberOID",
+                RowOf(
+                    "dayPlanActionNumber",
+                    (*ASC, *ACTIONS, 1),
+                    "timebaseAscActionTable",
+                ),
+            )
+        },
+        ("dayPlanNumber", "dayPlanEventNumber"),
+        "dayPlanHour",
+        TIME,
     ),
 )  # fmt: skip
 
@@ -516,15 +611,10 @@ def row_of(leaf: Leaf) -> Row:
 
 
 def values_of(plan: Plan) -> Iterator[tuple[Oid, Value]]:
-    """All values that a plan has in its version, by their OIDs in ascending order."""
+    """All values of a plan, by their OIDs in ascending order: those of the newest version, as a bench that runs the
+    plan has them."""
+    plan = plan.wide(NEWEST)
     for oid, leaf in plan_leaves().items():
         form = leaf.column.form
         assert form is not None
-        if has_row(plan, form, row_of(leaf)):
-            yield oid, form.written(plan, row_of(leaf))
-
-
-def has_row(plan: Plan, form: Form, row: Row) -> bool:
-    """Whether a plan of this version has a row."""
-    of_rows = len(row) == 1
-    return not of_rows or all(row[0] <= plan[it].count for it in form.names)
+        yield oid, form.written(plan, row_of(leaf))

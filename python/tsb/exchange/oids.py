@@ -1,6 +1,6 @@
 """Prints a plan as the lines of OIDs that `snmpwalk -On` prints of a controller.
 
-What NTCIP 1202 has no place for is printed on standard error, a line for each value.
+What NTCIP 1201 and 1202 have no place for is printed on standard error, a line for each value.
 """
 
 import argparse
@@ -10,7 +10,7 @@ from pathlib import Path
 
 from tsb.errors import Error, NoSuchObject, OutOfRange
 from tsb.exchange import mib
-from tsb.exchange.forms import Form, Row, Value
+from tsb.exchange.forms import KINDS, NOTHING, Form, Row, Value
 from tsb.exchange.objects import (
     Leaf,
     leaf_of,
@@ -18,7 +18,7 @@ from tsb.exchange.objects import (
     row_of,
     values_of,
 )
-from tsb.exchange.remarks import Remark, warn
+from tsb.exchange.remarks import Remark, of_notes, warn
 from tsb.exchange.sides import sides_of
 from tsb.exchange.walk import Line, dotted, printed
 from tsb.manual import NEWEST, OBJECTS
@@ -28,8 +28,6 @@ from tsb.values import RINGS, SEQUENCES
 
 PROGRAM = called("oids")
 PROFILE = "NTCIP 1202 v02 has no object for it"
-#: What is said of the objects of a schedule, whose names begin so.
-SCHEDULE, OF_SCHEDULES = "schedules are not exchanged", ("timeBase", "dayPlan", "timebase")
 #: Values that are written as another one: the object, the value, and what is said.
 WRITTEN_AS = {
     ("coordForceMode", 1): "it is written as fixed, as 0 is",
@@ -54,12 +52,12 @@ def without_place(plan: Plan) -> Iterator[Remark]:
         for index, value in values.items():
             why = WRITTEN_AS.get((name, value))
             why = PROFILE if name in profile else why
-            why = SCHEDULE if name.startswith(OF_SCHEDULES) else why
             if why is not None:
                 yield Remark(0, name, (index,), str(value), why)
     for phase in blank_density(plan):
         why = "no time reduces a gap there, and here it is the minimum gap at once"
         yield Remark(0, "phaseMinimumGap", (phase,), "0", why)
+    yield from of_notes(plan, PROFILE)
 
 
 # From lines to a plan
@@ -89,7 +87,7 @@ class Reading:
             self._tell(line, leaf.column.name, leaf.row, why)
         elif not leaf.table.has(leaf.row):
             why = f"a plan has {' x '.join(map(str, leaf.table.sizes))} of them"
-            why += _off(b"" if form.is_octets else 0, line.value)
+            why += _off(NOTHING[form.kind], line.value)
             self._tell(line, leaf.column.name, leaf.row, why)
         elif line.oid in self._seen:
             why = "a line before has it too, and counts"
@@ -108,10 +106,9 @@ class Reading:
 
     def _read(self, line: Line, leaf: Leaf, form: Form) -> None:
         """Takes a line that is of a plan."""
-        name = leaf.column.name
-        if line.value is None or isinstance(line.value, bytes) != form.is_octets:
-            what = "octets" if form.is_octets else "a number"
-            self._tell(line, name, leaf.row, f"it is not {what}")
+        name, is_of_kind = leaf.column.name, isinstance(line.value, form.kind)
+        if line.value is None or not is_of_kind:
+            self._tell(line, name, leaf.row, f"it is not {KINDS[form.kind]}")
             return
         sets, lost = form.read(line.value, row_of(leaf))
         for of, index, value in sets:
@@ -139,6 +136,7 @@ class Reading:
             self.plan["phaseVariableInitial"][phase] = 1
             why = f"given, as phaseAddedInitial is {value}"
             self._leave_out("phaseVariableInitial", phase, 1, why)
+        # (only a schedule asks for the newest version)
         self.plan = self.plan.wide()
 
     def _only_enabled(self) -> None:
@@ -252,7 +250,7 @@ def main(words: Sequence[str]) -> int:
     except Error as fault:
         raise Error(f"{given.plan}: {fault}") from None
     # (a plan of version 1 has other indices)
-    plan = plan.wide() if plan.version == 1 else plan
+    plan = plan.wide()
     for line in lines_of(plan):
         print(line)
     warn(without_place(plan))

@@ -14,8 +14,8 @@ from pathlib import Path
 from tsb import files
 from tsb.errors import Error, shown
 from tsb.exchange import oids
-from tsb.exchange.forms import Value
-from tsb.exchange.objects import ASC, Oid
+from tsb.exchange.forms import Oid, Value
+from tsb.exchange.objects import ASC, TIME
 from tsb.exchange.plans import Made, written
 from tsb.exchange.walk import Line, dotted, printed
 from tsb.options import Words, called
@@ -90,8 +90,15 @@ class Manager:
                 return found
         return None
 
-    def walk(self, root: Oid) -> Iterator[Line]:
-        """All values below an OID, as lines of a walk."""
+    def walk(self, *roots: Oid) -> Iterator[Line]:
+        """All values below these OIDs, as lines of a walk."""
+        number = 0
+        for root in roots:
+            for number, line in enumerate(self._below(root), number + 1):
+                yield line._replace(number=number)
+
+    def _below(self, root: Oid) -> Iterator[Line]:
+        """All values below an OID."""
         oid, number = root, 0
         while number < MOST:
             found = self.after(oid)
@@ -166,7 +173,7 @@ def main(words: Sequence[str]) -> int:
     version = V1 if given.version == "1" else V2C
     manager = Manager(given.host, given.port, community(given.community), version)
     try:
-        lines = list(progress(manager.walk(ASC), "values"))
+        lines = list(progress(manager.walk(ASC, TIME), "values"))
     finally:
         manager.close()
     if given.walk is not None:

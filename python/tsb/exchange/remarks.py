@@ -6,6 +6,8 @@ from collections.abc import Iterable, Iterator
 from typing import NamedTuple
 
 from tsb.errors import shown
+from tsb.manual import NOTES
+from tsb.plan import Plan
 
 LONGEST = 200  # characters of a value that are printed
 
@@ -58,6 +60,11 @@ def lines_of(remarks: Iterable[Remark]) -> Iterator[str]:
         run.append(it)
     if run:
         yield _run(run)
+
+
+def of_notes(plan: Plan, why: str) -> Iterator[Remark]:
+    """The remarks for a plan's notes, which no other form has."""
+    return (Remark(0, f"{NOTES}.{of}", (), it, why) for of, it in plan.notes.items())
 
 
 def warn(remarks: Iterable[Remark]) -> None:

@@ -7,6 +7,7 @@ import argparse
 import asyncio
 import math
 import signal
+import sys
 import time
 from collections.abc import Sequence
 from contextlib import suppress
@@ -30,6 +31,8 @@ PROGRAM = called("snmp")
 HOST = "127.0.0.1"
 #: The communities of a controller as it is delivered, by NTCIP 1103.
 DEFAULT = Communities(b"public", b"administrator")
+#: What is printed of a plan whose schedule does not act.
+NO_CLOCK = "its schedule acts by a clock alone: give --from, or set globalTime"
 LONGEST = 255  # bytes of a community
 TICKS = 10  # of a second
 TURN = 0.05  # seconds between two looks at the clock
@@ -98,11 +101,11 @@ async def serve(agent: Agent, known: Communities, given: argparse.Namespace) -> 
     )
     clock = asyncio.create_task(Clock(agent, given.speed).run(door))
     try:
+        for it in (signal.SIGINT, signal.SIGTERM):
+            loop.add_signal_handler(it, door.ended.set)
         number = transport.get_extra_info("sockname")[1]
         name = marked(shown(given.plan))
         print(f"{name}: SNMP at {HOST}:{number}", flush=True)
-        for it in (signal.SIGINT, signal.SIGTERM):
-            loop.add_signal_handler(it, door.ended.set)
         await door.ended.wait()
     finally:
         transport.close()
@@ -151,6 +154,10 @@ def _words() -> argparse.ArgumentParser:
         help="how often as fast as the clock time runs; 1 without it, 0: it stands",
     )  # fmt: skip
     words.add_argument(
+        "--from", dest="begin", metavar="TIME",
+        help="when tick 1 begins: the clock is set to it; without it there is none",
+    )  # fmt: skip
+    words.add_argument(
         "--ticks", type=int, default=0, metavar="N",
         help="so many ticks pass before the first answer",
     )  # fmt: skip
@@ -169,6 +176,10 @@ def main(words: Sequence[str]) -> int:
         known.error("--ticks is 0 or more")
     allowed = communities(given.communities)
     with _bench(given.plan, given.log) as bench:
+        if given.begin is not None:
+            bench.set_clock(given.begin)
+        elif bench.plan.has_schedule:
+            print(f"{shown(given.plan)}: {NO_CLOCK}", file=sys.stderr, flush=True)
         bench.step(given.ticks)
         return asyncio.run(serve(Agent(bench), allowed, given))
 

@@ -17,7 +17,8 @@ from typing import NamedTuple
 
 from tsb.errors import Error, NoSuchObject, OutOfRange, shown
 from tsb.exchange.oids import blank_density
-from tsb.exchange.remarks import Remark, warn
+from tsb.exchange.remarks import Remark, of_notes, warn
+from tsb.manual import NEWEST
 from tsb.options import Words, called
 from tsb.plan import Plan
 from tsb.values import RINGS, object_of
@@ -110,7 +111,7 @@ class Reading:
     """A plan that is made of a node of a file, and what it has no place for."""
 
     def __init__(self, text: str, node: str | None) -> None:
-        self.plan = Plan()
+        self.plan = Plan(NEWEST)
         self.remarks: list[Remark] = []
         self._nodes: dict[str, Node] = {}
         self._read(text)
@@ -220,6 +221,8 @@ class Reading:
         for node in self._nodes.values():
             if node.name != self.node:
                 self._tell_other(node)
+        # (only a detector beyond those of version 2 asks for the newest version)
+        self.plan = self.plan.wide()
         # (what has no line was given at the end)
         self.remarks.sort(key=lambda it: (it.line == 0, it.line))
 
@@ -539,6 +542,7 @@ class Sections:
                 value = plan["phaseConcurrency"][it]
                 why = "BRP makes all phases of a barrier and two rings concurrent"
                 self._tell("phaseConcurrency", it, value, why)
+        self.remarks += of_notes(plan, NO_ROW)
 
     def _has(self, name: str, index: int) -> bool:
         """Whether the sections have a value."""

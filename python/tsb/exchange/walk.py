@@ -9,31 +9,36 @@ from collections.abc import Iterator
 from typing import NamedTuple
 
 from tsb.errors import Error
-from tsb.exchange.forms import Value
+from tsb.exchange.forms import Oid, Unsigned, Value
 
-Oid = tuple[int, ...]
 DIGITS = 16  # octets in a line of hexadecimal digits
 DEPTH = 128  # numbers of an OID, at most
 LARGEST = (1 << 32) - 1  # of a number in an OID
-END = "End of MIB"  # what snmpwalk -v1 prints last
+# What snmpwalk prints last, by SNMPv1 and by SNMPv2c.
+END = "End of MIB"
+PAST = " = No more variables left in this MIB View (It is past the end of the MIB tree)"
 
 # What an OID begins with: also as snmpwalk prints it without -On.
-_ROOTS = {"1": (1,), "iso": (1,)}
+_ROOTS = {"0": 0, "1": 1, "2": 2, "iso": 1, "ccitt": 0}
 _ENTERPRISES = "SNMPv2-SMI::enterprises"
 _BEGUN = re.compile(
     rf"((?:\.?1|iso|{_ENTERPRISES})(?:\.[0-9]{{1,10}})+) = (.*)", re.S
 )
 _NUMBER = re.compile(
-    r"(?:INTEGER|Gauge32|Counter32|Counter64|Unsigned32|UInteger32): "
+    r"(INTEGER|Gauge32|Counter32|Counter64|Unsigned32|UInteger32): "
     r"(?:[A-Za-z][\w-]*\()?(-?[0-9]{1,20})\)?(?: \D*)?"
 )
+_UNSIGNED = ("Gauge32", "Unsigned32")
+# An OID that is a value, which may be of nothing: 0.0.
+_NAMED = re.compile(rf"(?:\.?[0-2]|iso|ccitt|{_ENTERPRISES})(?:\.[0-9]{{1,10}})+")
+_ZERO = "SNMPv2-SMI::zeroDotZero"
 _DIGITS = re.compile(r"(?:[0-9A-Fa-f]{2}\s+)*[0-9A-Fa-f]{2}\s*")
 _WHOLE = re.compile(r'STRING: "(?:[^"\\]|\\.)*"', re.S)
 
 
 class Line(NamedTuple):
-    """A value of a walk: the number of its line, its OID, the value where it is a number
-    or octets, and else None, and how it was printed."""
+    """A value of a walk: the number of its line, its OID, the value where it is a number,
+    octets or an OID, and else None, and how it was printed."""
 
     number: int
     oid: Oid
@@ -58,7 +63,7 @@ def lines_of(text: str) -> Iterator[Line]:
         if left:
             yield _line(begun, left)
             left = ""
-        if line.strip() in ("", END):
+        if line.strip() in ("", END) or line.endswith(PAST):
             continue
         if _BEGUN.match(line) is None:
             raise Error(f"walk line {number}: it is no line of snmpwalk -On")
@@ -91,17 +96,22 @@ def _oid(text: str) -> Oid | None:
         begin, more = (1, 3, 6, 1, 4, 1), text.removeprefix(_ENTERPRISES + ".")
     else:
         first, _, more = text.removeprefix(".").partition(".")
-        begin = _ROOTS[first]
+        begin = (_ROOTS[first],)
     oid = (*begin, *map(int, more.split(".")))
     return oid if len(oid) <= DEPTH and max(oid) <= LARGEST else None
 
 
 def _value(text: str) -> Value | None:
-    """The number or the octets that are printed so; None for anything else."""
+    """The number, the octets or the OID that are printed so; None for anything else."""
     if text.strip() == '""':
         return b""
     if (found := _NUMBER.fullmatch(text.strip())) is not None:
-        return int(found[1])
+        number = int(found[2])
+        return Unsigned(number) if found[1] in _UNSIGNED else number
+    if text.startswith("OID: "):
+        name = text.removeprefix("OID: ").strip()
+        name = ".0.0" if name == _ZERO else name
+        return _oid(name) if _NAMED.fullmatch(name) else None
     if text.startswith("Hex-STRING: "):
         digits = text.removeprefix("Hex-STRING: ")
         return bytes.fromhex(digits) if _DIGITS.fullmatch(digits) else None
@@ -124,7 +134,10 @@ def printed(oid: Oid, value: Value) -> str:
 
 def _printed(value: Value) -> str:
     if isinstance(value, int):
-        return f"INTEGER: {value}"
+        kind = "Gauge32" if isinstance(value, Unsigned) else "INTEGER"
+        return f"{kind}: {value}"
+    if isinstance(value, tuple):
+        return f"OID: {dotted(value)}"
     if not value:
         return '""'
     if all(32 <= it < 127 or 9 <= it <= 13 for it in value):

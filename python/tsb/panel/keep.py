@@ -55,9 +55,7 @@ class Source:
         with tempfile.NamedTemporaryFile(suffix=".json") as file:
             file.write(self.plan)
             file.flush()
-            bench = Bench(file.name, events=False)
-        bench.wide()
-        return bench
+            return Bench(file.name, events=False)
 
 
 class Keep:

@@ -3,6 +3,7 @@
 import itertools
 import time
 
+from tsb.bench import has_many_overlaps
 from tsb.errors import Error, NoSuchTick, Refused
 from tsb.manual import LAST_TICK
 from tsb.panel.keep import GIVEN_MOST, Source, parted
@@ -206,6 +207,8 @@ class Run:
         if plan.text != self._plan_text:
             self.plan, self.serial = plan, next(_serials)
             self._plan_text = plan.text
+            if has_many_overlaps(plan):
+                self.bench.wide()
 
     # Marks
 

@@ -6,7 +6,7 @@ which of them a line asks for.
 
 import shlex
 from collections.abc import Iterator
-from dataclasses import dataclass, replace
+from dataclasses import dataclass, field, replace
 from itertools import accumulate, groupby, pairwise
 from pathlib import Path
 
@@ -15,6 +15,7 @@ from tsb.errors import (
     Error,
     LogFault,
     NoSuchObject,
+    NoSuchTick,
     OutOfRange,
     PlanFault,
     Refused,
@@ -29,9 +30,10 @@ from tsb.plan import Plan
 from tsb.rows import ALL_OFF, COUNTS, Log, fields, of_fields
 from tsb.scenario.expect import Came, Played, Stretch, Waits
 from tsb.scenario.text import Command, Laid, Scenario
-from tsb.scenario.times import Times, Value
+from tsb.scenario.times import Clock, Times, Value
 
 PROGRAM = called("test")
+SETS_CLOCK = "at 0 clock 2026-11-22 07:00:00"
 
 
 @dataclass(frozen=True)
@@ -158,7 +160,8 @@ class _Run:
         plan = Plan.of_text(own.text)
         for it in scenario.laid:
             _lay(plan, it)
-        times = Times(plan, scenario.named)
+        clock = _Clock(scenario, path, plan)
+        times = Times(plan, scenario.named, clock.tick)
         return cls(scenario, path, plan, times, _end(scenario, times))
 
     @property
@@ -170,11 +173,7 @@ class _Run:
     def bench(self) -> Bench:
         """A bench on the plan, with the inputs of the scenario."""
         log = self.log()
-        try:
-            return Bench(self.plan, log, events=self.asks_events)
-        except PlanFault as fault:
-            on = f"{self.scenario.path} on {self.path.name}"
-            raise Error(f"{on}: {fault}") from None
+        return _opened(self.scenario, self.path, self.plan, log, self.asks_events)
 
     def log(self) -> Log:
         """The rows of the log, with the inputs that lines turn in place of its own."""
@@ -222,6 +221,41 @@ class _Run:
         found.sort(key=lambda it: -it.tick)
         looked = [_looked(it, bench) for it in found]
         return sorted(looked, key=lambda it: it.line)
+
+
+@dataclass(frozen=True)
+class _Clock:
+    """The clock that a scenario sets at tick 0, which the bench is asked for."""
+
+    scenario: Scenario
+    path: Path
+    plan: Plan
+    known: dict[str, int] = field(default_factory=dict)
+
+    def tick(self, time: Clock) -> int:
+        """The tick with which a time comes; `ScenarioFault` where none does."""
+        if time.text not in self.known:
+            with _opened(self.scenario, self.path, self.plan, None, False) as bench:
+                for it in self.scenario.commands:
+                    if it.tick.word.text == "0" and it.text.startswith("clock "):
+                        _answer(bench, it)
+                try:
+                    self.known[time.text] = bench.tick_at(time.text)
+                except NoSuchTick:
+                    raise time.word.fault(f"give a line `{SETS_CLOCK}`") from None
+                except Refused:
+                    raise time.word.fault("no tick is so late") from None
+        return self.known[time.text]
+
+
+def _opened(
+    scenario: Scenario, path: Path, plan: Plan, log: Log | None, events: bool
+) -> Bench:
+    """A bench on a plan; `Error` where it is refused."""
+    try:
+        return Bench(plan, log, events=events)
+    except PlanFault as fault:
+        raise Error(f"{scenario.path} on {path.name}: {fault}") from None
 
 
 def newest(plan: Plan) -> Plan:

@@ -1,11 +1,13 @@
-"""Ticks as a scenario gives them: numbers, values of the plan, and sums of them."""
+"""Ticks as a scenario gives them: numbers, values of the plan, times of the clock, and
+sums of them."""
 
 import re
-from collections.abc import Mapping
+from collections.abc import Callable, Mapping
 from dataclasses import dataclass
 from datetime import timedelta
 
-from tsb.errors import NoSuchObject
+from tsb import clock
+from tsb.errors import NoSuchObject, OutOfRange
 from tsb.manual import LAST_TICK, NEWEST
 from tsb.plan import Plan
 from tsb.scenario.faults import Word
@@ -13,9 +15,10 @@ from tsb.values import index_of, object_of
 
 TICK = timedelta(milliseconds=100)
 NAME = re.compile(r"[a-z][a-z0-9_]*")
-_TERM = re.compile(r"([+-]?)(\d{1,10}|[A-Za-z]\w*(?:\.\d{1,10})?)", re.ASCII)
+_CLOCK = r"(?:\d{4}-\d\d-\d\dT)?\d\d?:\d\d(?::\d\d(?:\.\d)?)?"
+_TERM = re.compile(rf"([+-]?)({_CLOCK}|\d{{1,10}}|[A-Za-z]\w*(?:\.\d{{1,10}})?)", re.ASCII)
 _VALUE = re.compile(r"([A-Za-z]\w*)\.(\d{1,10})", re.ASCII)
-IS_TIME = "a tick, as 120, or a sum as 1+phaseMinimumGreen.2"
+IS_TIME = "a tick, as 120, a sum as 1+phaseMinimumGreen.2, or 7:42 of the clock"
 
 
 @dataclass(frozen=True)
@@ -45,11 +48,23 @@ class Value:
 
 
 @dataclass(frozen=True)
+class Clock:
+    """A time of the clock that runs from power-up on, as a command has it."""
+
+    word: Word
+    text: str
+
+
+What = int | str | Value | Clock
+
+
+@dataclass(frozen=True)
 class Term:
-    """A part of a sum: a number, the name of a time, or a value of the plan."""
+    """A part of a sum: a number, the name of a time, a value of the plan, or a time of
+    the clock."""
 
     sign: int
-    what: int | str | Value
+    what: What
 
 
 @dataclass(frozen=True)
@@ -75,10 +90,15 @@ class Time:
         return time
 
 
-def _term(text: str, word: Word) -> int | str | Value:
-    """A number, a name, or a value that is a time."""
+def _term(text: str, word: Word) -> What:
+    """A number, a name, a value that is a time, or a time of the clock."""
     if text.isdecimal():
         return int(text)
+    if ":" in text:
+        try:
+            return Clock(word, clock.words(text))
+        except OutOfRange as fault:
+            raise word.fault(str(fault)) from None
     if NAME.fullmatch(text) and "." not in text:
         return text
     value = Value.of(Word(text, word.place))
@@ -87,11 +107,18 @@ def _term(text: str, word: Word) -> int | str | Value:
     return value
 
 
-class Times:
-    """The ticks of times, on a plan of version 3."""
+def _no_clock(time: Clock) -> int:
+    raise time.word.fault("no clock is set at tick 0")
 
-    def __init__(self, plan: Plan, named: Mapping[str, Time]) -> None:
-        self._plan = plan
+
+class Times:
+    """The ticks of times, on a plan of version 3. `tick` says with which tick a time of
+    the clock comes."""
+
+    def __init__(
+        self, plan: Plan, named: Mapping[str, Time], tick: Callable[[Clock], int] = _no_clock
+    ) -> None:
+        self._plan, self._tick = plan, tick
         self._named: dict[str, int] = {}
         for name, time in named.items():
             self._named[name] = self._sum(time)
@@ -106,9 +133,11 @@ class Times:
     def _sum(self, time: Time) -> int:
         return sum(it.sign * self._ticks(it.what) for it in time.terms)
 
-    def _ticks(self, what: int | str | Value) -> int:
+    def _ticks(self, what: What) -> int:
         if isinstance(what, int):
             return what
+        if isinstance(what, Clock):
+            return self._tick(what)
         if isinstance(what, str):
             return self._named[what]
         unit = object_of(what.object, NEWEST).time

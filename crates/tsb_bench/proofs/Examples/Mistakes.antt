@@ -17,17 +17,17 @@ use Rattle.tsb_bench.specs.Room.{KeepsRoom, KeepRoom}
 abbrev pub entries_size : ℕ → ℕ
 entries_size n = 6 * n
 
-asks_2586 : 2 * record_size (most_cells kinds.Tick) ≡ 2586
-asks_2586 = refl
+asks_4434 : 2 * record_size (most_cells kinds.Tick) ≡ 4434
+asks_4434 = refl
 
-would_ask_2580 : 2 * entries_size (most_cells kinds.Tick) ≡ 2580
-would_ask_2580 = refl
+would_ask_4428 : 2 * entries_size (most_cells kinds.Tick) ≡ 4428
+would_ask_4428 = refl
 
--- of these 1287 bytes are left by the first of two ticks that change each cell, fewer than the second may need
-leaves_1287 : 2580 - record_size (most_cells kinds.Tick) ≡ 1287
-leaves_1287 = refl
+-- of these 2211 bytes are left by the first of two ticks that change each cell, fewer than the second may need
+leaves_2211 : 4428 - record_size (most_cells kinds.Tick) ≡ 2211
+leaves_2211 = refl
 
-would_lack_room : nat_lt 1287 (record_size (most_cells kinds.Tick)) ≡ true
+would_lack_room : nat_lt 2211 (record_size (most_cells kinds.Tick)) ≡ true
 would_lack_room = refl
 
 -- a reset of a controller that has not tripped changes nothing, and its record takes 3 bytes

@@ -1,8 +1,7 @@
 -- What the calendar gives, by computing, and a definition with one mistake.
-use Rattle.std.specs.Prelude.{◌≡◌, ℕ, ◌+◌, ◌-◌, List, [], ◌∷◌, Option, Some, None, map, codes, refl, false}
-use Rattle.tsb_types.specs.Calendar.{days_before, days_of_years, date_after, month_of}
+use Rattle.std.specs.Prelude.{◌≡◌, ℕ, ◌-◌, [], ◌∷◌, Some, None, map, codes, refl, false}
+use Rattle.tsb_types.specs.Calendar.{days_of_years, date_after, month_of}
 use Rattle.tsb_command_text.specs.clock.ClockText.{clock_of, date_text}
-use Rattle.tsb_types.specs.declared.calendar.ClockDate.{ClockDate}
 
 -- 2028-02-29 is 10,294 days after 1999-12-24, and 10,286 after 2000-01-01
 reads_a_leap_day : clock_of (codes "2028-02-29") (codes "23:59:59.9") ≡ Some 8894879999

@@ -6,11 +6,13 @@ use Rattle.tsb_lines.specs.Lines.{is_blank, is_comment, is_skipped, kept, withou
 use Rattle.tsb_lines.specs.Words.{number_of, words_of}
 use Rattle.tsb_command_text.specs.Commands.{command_in, command_of_one, command_of_two, command_of_three}
 use Rattle.tsb_command_text.specs.Lamps.{head_number}
-use Rattle.tsb_command_text.specs.Readings.{reading}
+use Rattle.tsb_command_text.specs.Readings.{lines_of_two, reading}
 use Rattle.tsb_command_text.specs.declared.command.Command.TheVariants.{Step, Show, Undo}
 use Rattle.tsb_command_text.specs.declared.command.Reading.TheVariants as session
-use Rattle.tsb_log_text.specs.tsb_types.Sets.{set_of_list, all_off}
+use Rattle.tsb_log_text.specs.tsb_types.Sets.{set_of_detectors, set_of_list, all_off}
 use Rattle.tsb_log_text.specs.tsb_types.declared.row.Row.{Row}
+use Rattle.tsb_log_text.specs.Forms.{inputs_in}
+use Rattle.tsb_log_text.specs.RowLists.{lists_of}
 use Rattle.tsb_log_text.specs.Rows.{inputs_of, inputs_with, row_of, field, has_space}
 use Rattle.tsb_command_text.specs.LiveCommands.{live_command_in, own_in, own_of_one, own_of_three, own_of_two}
 use Rattle.tsb_command_text.specs.LiveReadings.{live_reading, row_or}
@@ -27,10 +29,10 @@ abbrev pub on_line : List ℕ
 on_line = codes "0100000000000000 00000000 0000"
 
 abbrev pub on : Row
-on = record { vehicles = set_of_list 2; pedestrians = set_of_list 0; preempts = set_of_list 0 }
+on = record { vehicles = set_of_detectors 2; pedestrians = set_of_list 0; preempts = set_of_list 0 }
 
 is_a_tick : live_reading on_line ≡ Tick on
-unfolding live_reading inputs_of
+unfolding live_reading inputs_of lists_of
 is_a_tick = refl
 
 is_a_row : row_of (codes "0000001" ++ 32 ∷ on_line) ≡ Some (record { tick = 1; row = on })
@@ -46,10 +48,10 @@ past_spaces (b ∷ bs) = if b == 32 then past_spaces bs else b ∷ bs
 abbrev pub reading_trimmed : List ℕ → LiveReading
 reading_trimmed line =
     if nat_lt 200 (length line) then Bad else
-    if is_skipped line then Skip else row_or (inputs_of (past_spaces line)) (live_command_in (words_of line))
+    if is_skipped line then Skip else row_or (inputs_in (past_spaces line)) (live_command_in (words_of line))
 
 is_bad : live_reading (32 ∷ on_line) ≡ Bad
-unfolding live_reading inputs_of own_of_three command_of_three
+unfolding live_reading inputs_of lists_of own_of_three command_of_three
 is_bad = refl
 
 is_malformed : row_of (codes "0000001" ++ 32 ∷ 32 ∷ on_line) ≡ None
@@ -57,7 +59,7 @@ unfolding row_of inputs_of
 is_malformed = refl
 
 would_be_a_tick : reading_trimmed (32 ∷ on_line) ≡ Tick on
-unfolding inputs_of
+unfolding inputs_of lists_of
 would_be_a_tick = refl
 
 -- ## A line may have 250 bytes
@@ -65,13 +67,13 @@ would_be_a_tick = refl
 abbrev pub reading_to_250 : List ℕ → LiveReading
 reading_to_250 line =
     if nat_lt 250 (length line) then Bad else
-    if is_skipped line then Skip else row_or (inputs_of line) (live_command_in (words_of line))
+    if is_skipped line then Skip else row_or (inputs_in line) (live_command_in (words_of line))
 
 abbrev pub long_show : List ℕ
 long_show = codes "show" ++ spaces 200
 
 asks_show : live_reading (codes "show") ≡ Ask (Session Show)
-unfolding live_reading inputs_of own_of_one command_of_one
+unfolding live_reading inputs_of lists_of own_of_one command_of_one
 asks_show = refl
 
 reads_show : reading (codes "show") ≡ session.Do Show
@@ -82,7 +84,7 @@ is_bad_there : reading long_show ≡ session.Bad
 is_bad_there = refl
 
 would_be_asked : reading_to_250 long_show ≡ Ask (Session Show)
-unfolding inputs_of own_of_one command_of_one
+unfolding inputs_of lists_of own_of_one command_of_one
 would_be_asked = refl
 
 -- ## Comments may have spaces before them
@@ -91,7 +93,7 @@ abbrev pub reading_indented : List ℕ → LiveReading
 reading_indented line =
     if nat_lt 200 (length line) then Bad else
     if is_blank line then Skip else
-    if is_comment (past_spaces line) then Skip else row_or (inputs_of line) (live_command_in (words_of line))
+    if is_comment (past_spaces line) then Skip else row_or (inputs_in line) (live_command_in (words_of line))
 
 skips_a_comment : live_reading (codes "# a comment") ≡ Skip
 unfolding live_reading
@@ -132,7 +134,7 @@ abbrev pub undo_of_30 : List ℕ
 undo_of_30 = codes "undo" ++ spaces 26
 
 asks_undo : live_reading undo_of_30 ≡ Ask (Session Undo)
-unfolding live_reading inputs_of own_of_one command_of_one
+unfolding live_reading inputs_of lists_of own_of_one command_of_one
 asks_undo = refl
 
 reads_undo : reading undo_of_30 ≡ session.Do Undo
@@ -152,10 +154,10 @@ abbrev pub reading_step_as_changes : List ℕ → LiveReading
 reading_step_as_changes line =
     if nat_lt 200 (length line) then Bad else
     if is_skipped line then Skip else
-    row_or (inputs_of line) (option_or (own_step (words_of line)) (option_map Session (command_in (words_of line))))
+    row_or (inputs_in line) (option_or (own_step (words_of line)) (option_map Session (command_in (words_of line))))
 
 asks_status : live_reading (codes "status") ≡ Ask Status
-unfolding live_reading inputs_of own_of_one
+unfolding live_reading inputs_of lists_of own_of_one
 asks_status = refl
 
 is_bad_to_a_session : reading (codes "status") ≡ session.Bad
@@ -163,11 +165,11 @@ unfolding command_of_one
 is_bad_to_a_session = refl
 
 reads_step : reading (codes "step 5") ≡ session.Do (Step 5)
-unfolding command_of_two
+unfolding command_of_two lines_of_two
 reads_step = refl
 
 would_be_changes : reading_step_as_changes (codes "step 5") ≡ Ask (Changes 5)
-unfolding inputs_of
+unfolding inputs_of lists_of
 would_be_changes = refl
 
 -- ## `changes` takes no leading zero
@@ -180,18 +182,18 @@ abbrev pub reading_without_zeros : List ℕ → LiveReading
 reading_without_zeros line =
     if nat_lt 200 (length line) then Bad else
     if is_skipped line then Skip else
-    row_or (inputs_of line) (option_or (own_without_zeros (words_of line)) (option_map Session (command_in (words_of line))))
+    row_or (inputs_in line) (option_or (own_without_zeros (words_of line)) (option_map Session (command_in (words_of line))))
 
 takes_05 : reading (codes "step 05") ≡ session.Do (Step 5)
-unfolding command_of_two
+unfolding command_of_two lines_of_two
 takes_05 = refl
 
 asks_05 : live_reading (codes "changes 05") ≡ Ask (Changes 5)
-unfolding live_reading inputs_of own_of_two
+unfolding live_reading inputs_of lists_of own_of_two
 asks_05 = refl
 
 would_be_bad : reading_without_zeros (codes "changes 05") ≡ Bad
-unfolding inputs_of own_of_two command_of_two
+unfolding inputs_of lists_of own_of_two command_of_two
 would_be_bad = refl
 
 -- ## A blank line is skipped whatever its length
@@ -199,7 +201,7 @@ would_be_bad = refl
 abbrev pub reading_skips_first : List ℕ → LiveReading
 reading_skips_first line =
     if is_skipped line then Skip else
-    if nat_lt 200 (length line) then Bad else row_or (inputs_of line) (live_command_in (words_of line))
+    if nat_lt 200 (length line) then Bad else row_or (inputs_in line) (live_command_in (words_of line))
 
 is_too_long : live_reading (spaces 201) ≡ Bad
 unfolding live_reading
@@ -218,5 +220,5 @@ unfolding live_reading
 is_bad_whole = refl
 
 would_be_show : live_reading (without_return (kept 201 show_and_more)) ≡ Ask (Session Show)
-unfolding live_reading inputs_of own_of_one command_of_one
+unfolding live_reading inputs_of lists_of own_of_one command_of_one
 would_be_show = refl

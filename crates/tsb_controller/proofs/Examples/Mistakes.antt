@@ -168,7 +168,7 @@ would_have_none = refl
 -- ## Rows stay by: a bound on how long the change timer of detector 1 has run
 
 abbrev pub is_recent : ℕ → List ℕ → Bool
-is_recent now row = nat_le (now + 1 - slice_index row 22) 600
+is_recent now row = nat_le (now + 1 - slice_index row 76) 600
 
 is_recent_yet : is_recent 649 (on_side 1).detectors ≡ true
 unfolding run_from number_of_bits

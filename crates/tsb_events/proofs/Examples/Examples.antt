@@ -2,7 +2,7 @@
 use Rattle.std.specs.Prelude.{◌≡◌, ℕ, ◌==◌, Bool, true, false, [], ◌∷◌, Some, None, if◌then◌else◌, refl}
 use Rattle.tsb_types.specs.Events.{event}
 use Rattle.tsb_types.specs.Lists.{run_from}
-use Rattle.tsb_types.specs.Sets.{all_off, set_of_list}
+use Rattle.tsb_types.specs.Sets.{all_off, set_of_detectors, set_of_list}
 use Rattle.tsb_types.specs.declared.row.Row.{Row}
 use Rattle.tsb_step.specs.declared.log_form.Noted.{Noted}
 use Rattle.tsb_step.specs.tsb_coord.declared.cycle.CycleState.TheVariants as cycles
@@ -22,7 +22,7 @@ only m n = m == n
 
 -- inputs by the lists that name them: vehicles, pedestrians, preempts
 abbrev inputs : ℕ → ℕ → ℕ → Row
-inputs v w p = record { vehicles = set_of_list v; pedestrians = set_of_list w; preempts = set_of_list p }
+inputs v w p = record { vehicles = set_of_detectors v; pedestrians = set_of_list w; preempts = set_of_list p }
 
 -- nothing is lit, called or in service
 abbrev pub dark : events.View

@@ -1,5 +1,5 @@
 -- What definitions give, by computing.
-use Rattle.std.specs.Prelude.{◌≡◌, ℕ, true, List, [], ◌∷◌, ◌++◌, codes, Some, None, refl}
+use Rattle.std.specs.Prelude.{◌≡◌, ℕ, true, false, List, [], ◌∷◌, ◌++◌, codes, Some, None, refl}
 use Rattle.tsb_types.specs.Lists.{run_from}
 use Rattle.tsb_types.specs.Sets.{set_of_list}
 use Rattle.tsb_field_display.specs.declared.shown.Signals.{Signals}
@@ -21,7 +21,7 @@ opened = tt
 
 -- ## Reading
 
-yellow : shown_of (codes "0000101 -Y-R------------ -C-------------- G--- 2 0759") ≡ Some (record {
+yellow : shown_of false (codes "0000101 -Y-R------------ -C-------------- G--- 2 0759") ≡ Some (record {
   tick = 101;
   signals = record {
     vehicles = record { greens = set_of_list 0; yellows = set_of_list 2; reds = set_of_list 8; flashing = set_of_list 0 };
@@ -33,29 +33,51 @@ yellow : shown_of (codes "0000101 -Y-R------------ -C-------------- G--- 2 0759"
 unfolding opened
 yellow = refl
 
+-- a wide line has overlap 5 too, and preempt 8 is in service
+wide : shown_of true (codes "0000101 -Y-R------------ -C-------------- G--- 8 0759 G---Y-----------") ≡ Some (record {
+  tick = 101;
+  signals = record {
+    vehicles = record { greens = set_of_list 0; yellows = set_of_list 2; reds = set_of_list 8; flashing = set_of_list 0 };
+    pedestrians = record { walks = set_of_list 0; clearances = set_of_list 2; dont_walks = set_of_list 0 };
+    overlaps = record { greens = set_of_list 1; yellows = set_of_list 16; reds = set_of_list 0; flashing = set_of_list 0 };
+    preempt = Some 8;
+  };
+})
+unfolding opened
+wide = refl
+
+-- where lines are wide the others are none, and where they are not the wide ones are none
+not_wide : shown_of true (codes "0000101 -Y-R------------ -C-------------- G--- 8 0759") ≡ None
+unfolding opened
+not_wide = refl
+
+not_narrow : shown_of false (codes "0000101 -Y-R------------ -C-------------- G--- 8 0759 G---Y-----------") ≡ None
+unfolding opened
+not_narrow = refl
+
 -- other answers of a session are no display lines
-an_answer : shown_of (codes "ok") ≡ None
+an_answer : shown_of false (codes "ok") ≡ None
 unfolding opened
 an_answer = refl
 
 -- nor is a line with a letter, a digit or a space out of place
-wrong_letter : shown_of (codes "0000101 -W-R------------ -D-------------- G--- 2 0759") ≡ None
+wrong_letter : shown_of false (codes "0000101 -W-R------------ -D-------------- G--- 2 0759") ≡ None
 unfolding opened
 wrong_letter = refl
 
-wrong_tick : shown_of (codes "000010A -Y-R------------ -D-------------- G--- 2 0759") ≡ None
+wrong_tick : shown_of false (codes "000010A -Y-R------------ -D-------------- G--- 2 0759") ≡ None
 unfolding opened
 wrong_tick = refl
 
-wrong_preempt : shown_of (codes "0000101 -Y-R------------ -D-------------- G--- 5 0759") ≡ None
+wrong_preempt : shown_of false (codes "0000101 -Y-R------------ -D-------------- G--- 9 0759") ≡ None
 unfolding opened
 wrong_preempt = refl
 
-wrong_local : shown_of (codes "0000101 -Y-R------------ -D-------------- G--- 2 07--") ≡ None
+wrong_local : shown_of false (codes "0000101 -Y-R------------ -D-------------- G--- 2 07--") ≡ None
 unfolding opened
 wrong_local = refl
 
-no_space : shown_of (codes "0000101--Y-R------------ -D-------------- G--- 2 0759") ≡ None
+no_space : shown_of false (codes "0000101--Y-R------------ -D-------------- G--- 2 0759") ≡ None
 unfolding opened
 no_space = refl
 
@@ -65,25 +87,25 @@ abbrev pub red_line : List ℕ
 red_line = codes "0000000 -R-------------- -D-------------- R--- 0 ----"
 
 abbrev pub red : Signals
-red = signals_of red_line
+red = signals_of false red_line
 
 abbrev pub green_line : List ℕ
 green_line = codes "0000000 -G-------------- -W-------------- G--- 0 ----"
 
 abbrev pub green : Signals
-green = signals_of green_line
+green = signals_of false green_line
 
 abbrev pub clearing_line : List ℕ
 clearing_line = codes "0000000 -G-------------- -C-------------- G--- 1 ----"
 
 abbrev pub clearing : Signals
-clearing = signals_of clearing_line
+clearing = signals_of false clearing_line
 
 abbrev pub ending : Signals
-ending = signals_of (codes "0000000 -Y-------------- -D-------------- Y--- 1 ----")
+ending = signals_of false (codes "0000000 -Y-------------- -D-------------- Y--- 1 ----")
 
 abbrev pub flash : Signals
-flash = signals_of (codes "0000000 -F-------------- ---------------- F--- 0 ----")
+flash = signals_of false (codes "0000000 -F-------------- ---------------- F--- 0 ----")
 
 abbrev pub at : ℕ → Signals → Shown
 at tick signals = record { tick = tick; signals = signals }
@@ -103,7 +125,7 @@ what_changes = refl
 -- ## Answers of a session
 
 -- one line ends with a return and a feed, and the last with nothing; a longer line is none
-answers : shown_lines (codes "ok" ++ 10 ∷ red_line ++ 13 ∷ 10 ∷ green_line ++ 32 ∷ 10 ∷ clearing_line) ≡ at 0 red ∷ at 0 clearing ∷ []
+answers : shown_lines false (codes "ok" ++ 10 ∷ red_line ++ 13 ∷ 10 ∷ green_line ++ 32 ∷ 10 ∷ clearing_line) ≡ at 0 red ∷ at 0 clearing ∷ []
 unfolding opened
 answers = refl
 
@@ -117,7 +139,7 @@ whole = refl
 
 -- ## Lines that meet the premise of the law on what events tell
 
-are_apart : (line : List ℕ) → AreApart (signals_of line)
+are_apart : (line : List ℕ) → AreApart (signals_of false line)
 are_apart line = record { pedestrians = apart-pedestrians _; overlaps = apart-overlaps _ }
 
 met : AreAllApart (at 1 red ∷ at 2 green ∷ at 3 clearing ∷ [])

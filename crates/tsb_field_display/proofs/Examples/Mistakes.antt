@@ -73,7 +73,7 @@ is_written : written ≡ codes "0000101 -Y-------------- ---------------- ---- 3
 unfolding line_of run_from
 is_written = refl
 
-shows_2 : aspect_of (signals_of written).vehicles 2 ≡ Yellow
+shows_2 : aspect_of (signals_of false written).vehicles 2 ≡ Yellow
 unfolding line_of run_from
 shows_2 = refl
 

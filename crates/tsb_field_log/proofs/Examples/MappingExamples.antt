@@ -1,9 +1,11 @@
--- Which wires lead to a bench, worked by hand, and mistakes that the definition refuses.
+-- Which wires lead to a bench, and the form of a log by them, worked by hand, and mistakes that the definition refuses.
 use Rattle.std.specs.Prelude.{◌≡◌, ℕ, true, false, List, [], ◌∷◌, ◌++◌, length, refl}
 use Rattle.tsb_field_log.specs.declared.inputs.InputKind.{InputKind}
 use Rattle.tsb_field_log.specs.declared.inputs.InputKind.TheVariants.{Vehicle, Preempt}
 use Rattle.tsb_field_log.specs.declared.inputs.Wire.{Wire}
 use Rattle.tsb_field_log.specs.Mapping.{is_wired, own_wires, wires_of}
+use Rattle.tsb_field_log.specs.Wires.{form_of_wires}
+use Rattle.tsb_log_text.specs.declared.form.RowForm.TheVariants.{Digits, Lists}
 
 abbrev pub leads : InputKind → ℕ → ℕ → Wire
 leads kind channel input = record { kind = kind; channel = channel; input = input }
@@ -27,6 +29,15 @@ none_mapped = refl
 
 wired : is_wired mapped Preempt 2 ∷ is_wired mapped Vehicle 2 ∷ is_wired mapped Preempt 3 ∷ is_wired mapped Vehicle 4 ∷ [] ≡ true ∷ false ∷ false ∷ true ∷ []
 wired = refl
+
+-- ## The form of a log by wires
+
+by_digits : form_of_wires mapped ≡ Digits
+by_digits = refl
+
+-- one wire to an input for which digits have none is enough
+by_lists : form_of_wires (mapped ++ leads Preempt 1 5 ∷ []) ≡ Lists
+by_lists = refl
 
 -- ## A mistake: each channel leads to the input of its own number too, though it is mapped
 

@@ -1,7 +1,7 @@
 -- Which rows become known by each event, worked by hand, and a mistake that the law `rows_add_up` refuses.
 use Rattle.std.specs.Prelude.{◌≡◌, true, false, List, [], ◌∷◌, ◌++◌, map, take, refl}
 use Rattle.std.proofs.Common.{arith}
-use Rattle.tsb_types.specs.Sets.{set_of_list, all_off, number_of_bits}
+use Rattle.tsb_types.specs.Sets.{set_of_detectors, set_of_list, all_off, number_of_bits}
 use Rattle.tsb_types.specs.declared.row.Row.{Row}
 use Rattle.tsb_log_text.specs.declared.log.LogRow.{LogRow}
 use Rattle.tsb_field_log.specs.declared.inputs.InputKind.TheVariants.{Vehicle}
@@ -65,7 +65,7 @@ unfolding changes row_in number_of_bits
 too_soon = refl
 
 abbrev pub detectors_3_and_4 : Row
-detectors_3_and_4 = record { vehicles = set_of_list 12; pedestrians = set_of_list 0; preempts = set_of_list 0 }
+detectors_3_and_4 = record { vehicles = set_of_detectors 12; pedestrians = set_of_list 0; preempts = set_of_list 0 }
 
 another : known_too_soon then_fourth ≡ record { tick = 2; row = detectors_3_and_4 } ∷ []
 unfolding changes row_in number_of_bits

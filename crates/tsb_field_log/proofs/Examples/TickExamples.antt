@@ -1,7 +1,7 @@
 -- Which ticks a wire is on in, worked by hand from the rule. Tick 1 begins at 1,000,000,000, tick 2 a tenth of a second
 -- later, and so on.
 use Rattle.std.specs.Prelude.{◌≡◌, ℕ, Bool, true, false, List, [], ◌∷◌, map, codes, refl}
-use Rattle.tsb_types.specs.Sets.{set_of_list, all_off, number_of_bits}
+use Rattle.tsb_types.specs.Sets.{set_of_detectors, set_of_list, all_off, number_of_bits}
 use Rattle.tsb_types.specs.declared.row.Row.{Row}
 use Rattle.tsb_field_log.specs.declared.inputs.InputKind.TheVariants.{Vehicle}
 use Rattle.tsb_field_log.specs.declared.inputs.Wire.{Wire}
@@ -73,7 +73,7 @@ abbrev pub two : List InputEvent
 two = goes true 1010000000 ∷ other_goes true 1110000000 ∷ goes false 1120000000 ∷ other_goes false 1210000000 ∷ []
 
 abbrev pub detector_3 : Row
-detector_3 = record { vehicles = set_of_list 4; pedestrians = set_of_list 0; preempts = set_of_list 0 }
+detector_3 = record { vehicles = set_of_detectors 4; pedestrians = set_of_list 0; preempts = set_of_list 0 }
 
 either : map (λ t. row_in start (wire ∷ other ∷ []) two t) ticks ≡ detector_3 ∷ detector_3 ∷ detector_3 ∷ all_off ∷ []
 unfolding row_in number_of_bits

@@ -1,6 +1,7 @@
 -- One-line mistakes, each with an example that tells it from the definition.
+use Rattle.std.specs.Fmt.{digits}
 use Rattle.std.specs.Prelude.{◌≡◌, ℕ, zero, suc, ◌+◌, ◌*◌, ◌&&◌, ◌||◌, nat_lt, Bool, true, false, List, [], ◌∷◌, ◌++◌, drop, length, map, if◌then◌else◌, Ok, Err, refl}
-use Rattle.tsb_types.specs.Sets.{all_off, has_number, is_same_row, number_of_bits}
+use Rattle.tsb_types.specs.Sets.{all_off, has_detector, is_same_row, number_of_bits, set_of_detectors, set_of_list}
 use Rattle.tsb_types.specs.declared.row.Row.{Row}
 use Rattle.tsb_log_text.specs.Logs.{log_of, row_at, rows_from}
 use Rattle.tsb_log_text.specs.Rows.{inputs_of, row_of}
@@ -10,6 +11,10 @@ use Rattle.tsb_field_log.specs.declared.inputs.InputEvent.{InputEvent}
 use Rattle.tsb_field_log.specs.Changes.{change, changes}
 use Rattle.tsb_field_log.specs.Inputs.{is_of, on_at, switched_on}
 use Rattle.tsb_log_text.specs.LogText.{log_text, row_line}
+use Rattle.tsb_log_text.specs.ListText.{lists_line, lists_text, text_in}
+use Rattle.tsb_log_text.specs.RowLists.{lists_of, row_of_lists}
+use Rattle.tsb_log_text.specs.declared.form.RowForm.TheVariants.{Digits, Lists}
+use Rattle.tsb_types.specs.Lists.{run_from}
 use Rattle.tsb_field_log.specs.Ticks.{begin_of, is_on_in, row_in}
 use Rattle.tsb_field_log.proofs.Examples.TickExamples.{detector_3, goes, other, start, ticks, two, wire}
 
@@ -67,7 +72,7 @@ abbrev pub all_on : List InputEvent → ℕ → Bool
 all_on events tick = is_on_in start wire tick events && is_on_in start other tick events
 
 -- in tick 1 the first alone is on
-has_3 : has_number (inputs 1).vehicles 3 ≡ true
+has_3 : has_detector (inputs 1).vehicles 3 ≡ true
 unfolding row_in number_of_bits
 has_3 = refl
 
@@ -87,7 +92,7 @@ text_in_six [] = []
 text_in_six (r ∷ rs) = line_in_six r ++ 10 ∷ text_in_six rs
 
 is_a_log : log_of (log_text rows) ≡ Ok rows
-unfolding changes row_in number_of_bits log_text row_line rows_from row_of inputs_of
+unfolding changes row_in number_of_bits log_text row_line rows_from row_of inputs_of row_of_lists lists_of
 is_a_log = refl
 
 is_long : length (log_text rows) ≡ 39 * length rows
@@ -95,5 +100,21 @@ unfolding changes row_in number_of_bits log_text row_line
 is_long = refl
 
 would_be_malformed : log_of (text_in_six rows) ≡ Err (Malformed 1)
-unfolding changes row_in number_of_bits row_line rows_from row_of inputs_of
+unfolding changes row_in number_of_bits row_line rows_from row_of inputs_of row_of_lists lists_of
 would_be_malformed = refl
+
+-- ## Rows are by digits though a wire leads to detector 17
+
+abbrev pub detector_17 : Row
+detector_17 = record { vehicles = set_of_detectors 65536; pedestrians = set_of_list 0; preempts = set_of_list 0 }
+
+abbrev pub one_row : Row → List LogRow
+one_row inputs = record { tick = 1; row = inputs } ∷ []
+
+has_17 : log_of (text_in Lists (one_row detector_17)) ≡ Ok (one_row detector_17)
+unfolding digits number_of_bits run_from lists_text lists_line rows_from row_of_lists lists_of
+has_17 = refl
+
+would_lose_17 : log_of (text_in Digits (one_row detector_17)) ≡ Ok (one_row all_off)
+unfolding number_of_bits log_text row_line rows_from row_of inputs_of row_of_lists lists_of
+would_lose_17 = refl

@@ -4,8 +4,9 @@ ghost use Rattle.tsb_field_log.specs.Mapping.{leads_from};
 ghost use Rattle.tsb_field_streams.specs.Blame.{IsOfText};
 ghost use Rattle.tsb_field_streams.specs.Filtering.{Given, Stand, wire_place, with_event, with_signal, with_unwired, with_used};
 
-use super::{Channel, Filter, NO_ROWS, count_of, with_channel};
+use super::{Channel, Filter, NO_ROWS, with_channel};
 use crate::error::FilterError;
+use crate::rows::text_size;
 use tsb_event_text::EventRow;
 use tsb_field_log::{InputEvent, InputKind, KnownRows, Signal, Wire};
 
@@ -76,10 +77,11 @@ impl Filter<'_> {
         let Some(rows) = self.street.push(event) else {
             return Err(FilterError::PastEnd);
         };
-        if !self.has_room(rows) {
+        let size = text_size(self.form, rows);
+        if !self.has_room(size) {
             return Err(FilterError::LogTooLarge);
         }
-        self.rows += count_of(rows);
+        self.bytes += size;
         Ok(rows)
     }
 }

@@ -25,8 +25,7 @@ use Rattle.tsb_step.specs.Laws.{IsConsistent}
 use Rattle.tsb_step.specs.Runs.{replay, AreTaken}
 use Rattle.tsb_step.specs.Signs.{display, local, shown, stage}
 use Rattle.tsb_step.specs.State.{State, start}
-use Rattle.tsb_step.proofs.GoodLemmas.{good_run}
-use Rattle.tsb_text.specs.Answers.{display_line, preempt_in_service}
+use Rattle.tsb_text.specs.Answers.{line_in, preempt_in_service}
 use Rattle.tsb_field_display.specs.declared.shown.Shown.{Shown}
 use Rattle.tsb_field_display.specs.declared.shown.Signals.{Signals}
 use Rattle.tsb_field_display.specs.Events as lines
@@ -40,9 +39,10 @@ use Rattle.tsb_field_display.proofs.LawLemmas.{tell-the-heads}
 use Rattle.tsb_field_display.proofs.LetterLemmas.{apart-overlaps, apart-pedestrians}
 use Rattle.tsb_text.specs.recording.Along.{noted_after, told_along}
 use Rattle.tsb_laws.specs.Told.{RunsTellTheHeads, is_of_line, shown_in, signals}
-use Rattle.tsb_laws.proofs.events.LineLemmas.{Sees, by_line, lines-same, lines_of}
+use Rattle.tsb_laws.proofs.events.LineLemmas.{Sees, by_line, lines-same, lines_of, wide-whole}
 use Rattle.tsb_laws.proofs.events.SayLemmas.{at-head, differs, silent}
 use Rattle.tsb_laws.proofs.events.RunLemmas.{run-sees, tell-the-same}
+use Rattle.tsb_laws.proofs.events.ServedLemmas.{known-run}
 use Rattle.tsb_laws.proofs.events.SeenLemmas.{preempt-known}
 use Rattle.tsb_laws.proofs.versions.PatternLemmas.{any-never}
 
@@ -98,21 +98,21 @@ lines-none tick v =
     ++ none-told tick 105 v.preempts i ++ same-flash v.flashes tick i
 
 -- at power-up nothing is lit
-first-line : (plan : Plan) → IsConsistent plan → plan.phase_count ≤ 16 → lines.events_of nothing_lit (shown_in (start plan)) ≡ []
+first-line : (plan : Plan) → IsConsistent plan → plan.phase_count ≤ 16 → lines.events_of nothing_lit (shown_in true (start plan)) ≡ []
 first-line plan ok few =
-    lines-same nothing_lit (shown_in (start plan)) (view (start plan)) (view (start plan)) (stage (start plan)) (stage (start plan))
-    (nothing-seen plan) (run-sees plan [] ok few tt) ∙ lines-none 0 (view (start plan))
+    lines-same nothing_lit (shown_in true (start plan)) (view (start plan)) (view (start plan)) (stage (start plan)) (stage (start plan))
+    (nothing-seen plan) (run-sees true plan [] ok few tt) ∙ lines-none 0 (view (start plan))
 
 -- ## The lines of a run
 
 -- those of the states before
 abbrev earlier : Plan → List Input → List Shown
 earlier plan [] = []
-earlier plan (i ∷ is) = earlier plan is ++ shown_in (replay plan is) ∷ []
+earlier plan (i ∷ is) = earlier plan is ++ shown_in true (replay plan is) ∷ []
 
 -- and with the newest
 abbrev all_lines : Plan → List Input → List Shown
-all_lines plan is = earlier plan is ++ shown_in (replay plan is) ∷ []
+all_lines plan is = earlier plan is ++ shown_in true (replay plan is) ∷ []
 
 then-next : (before : Signals) (ls : List Shown) (line next : Shown) →
     events_after before ((ls ++ line ∷ []) ++ next ∷ []) ≡ events_after before (ls ++ line ∷ []) ++ lines.events_of line.signals next
@@ -124,17 +124,17 @@ then-next before (l ∷ ls) line next =
     ∙ sym (append_assoc (lines.events_of before l) (events_after l.signals (ls ++ line ∷ [])) (lines.events_of line.signals next))
 
 lines-told : (form : LogForm) (plan : Plan) (is : List Input) → IsConsistent plan → plan.phase_count ≤ 16 → AreTaken plan is →
-    filter is_of_line (told_along form plan is) ≡ events_of_lines (all_lines plan is)
-lines-told form plan [] ok few taken = sym (append-nil (lines.events_of nothing_lit (shown_in (start plan))) ∙ first-line plan ok few)
+    filter (is_of_line true) (told_along form plan is) ≡ events_of_lines (all_lines plan is)
+lines-told form plan [] ok few taken = sym (append-nil (lines.events_of nothing_lit (shown_in true (start plan))) ∙ first-line plan ok few)
 lines-told form plan (i ∷ is) ok few taken =
-    filter-append is_of_line (told_along form plan is) (events_of (noted_after form is) (replay plan is) i)
-    ∙ (λ j. lines-told form plan is ok few taken.0 j ++ sym (tell-the-same plan is i (noted_after form is) ok few taken) j)
-    ∙ sym (then-next nothing_lit (earlier plan is) (shown_in (replay plan is)) (shown_in (replay plan (i ∷ is))))
+    filter-append (is_of_line true) (told_along form plan is) (events_of (noted_after form is) (replay plan is) i)
+    ∙ (λ j. lines-told form plan is ok few taken.0 j ++ sym (tell-the-same true plan is i (noted_after form is) ok few taken) j)
+    ∙ sym (then-next nothing_lit (earlier plan is) (shown_in true (replay plan is)) (shown_in true (replay plan (i ∷ is))))
 
-line-apart : (s : State) → AreApart (signals s)
+line-apart : (s : State) → AreApart (signals true s)
 line-apart s = record {
-  pedestrians = apart-pedestrians (field 25 16 (display_line s));
-  overlaps = apart-overlaps (field 42 4 (display_line s));
+  pedestrians = apart-pedestrians (field 25 16 (line_in true s));
+  overlaps = apart-overlaps (field 54 16 (line_in true s));
 }
 
 apart-more : (ls : List Shown) (line : Shown) → AreAllApart ls → AreApart line.signals → AreAllApart (ls ++ line ∷ [])
@@ -143,7 +143,7 @@ apart-more (l ∷ ls) line all apart = (all.0, apart-more ls line all.1 apart)
 
 earlier-apart : (plan : Plan) (is : List Input) → AreAllApart (earlier plan is)
 earlier-apart plan [] = tt
-earlier-apart plan (i ∷ is) = apart-more (earlier plan is) (shown_in (replay plan is)) (earlier-apart plan is) (line-apart (replay plan is))
+earlier-apart plan (i ∷ is) = apart-more (earlier plan is) (shown_in true (replay plan is)) (earlier-apart plan is) (line-apart (replay plan is))
 
 -- ## What other events say
 
@@ -191,19 +191,19 @@ heads-told-back form plan is ok few taken = record {
     told : List Event
     told = events_of_lines (all_lines plan is)
 
-    lit : IsLit (read_back told) (signals s)
-    lit = tell-the-heads (earlier plan is) (shown_in s) (apart-more (earlier plan is) (shown_in s) (earlier-apart plan is) (line-apart s))
+    lit : IsLit (read_back told) (signals true s)
+    lit = tell-the-heads (earlier plan is) (shown_in true s) (apart-more (earlier plan is) (shown_in true s) (earlier-apart plan is) (line-apart s))
 
-    shows : Shows (display s) (preempt_in_service s) (signals s)
-    shows = line-shows s.now (display s) (preempt_in_service s) (local s) (preempt-known s (good_run plan is ok taken))
+    shows : Shows true (display s) (preempt_in_service s) (signals true s)
+    shows = line-shows true s.now (display s) (preempt_in_service s) (local s) (preempt-known s (known-run plan is taken))
 
     all : (says : Event → Option Bool) → ((e : Event) → by_line e.code ≡ false → says e ≡ None) →
         lit_after says false (told_along form plan is) ≡ lit_after says false told
-    all says none = sym (silent by_line says false (told_along form plan is) none) ∙ ap (lit_after says false) (lines-told form plan is ok few taken)
+    all says none = sym (silent by_line says false (told_along form plan is) none) ∙ ap (lit_after says false) (sym (wide-whole (told_along form plan is)) ∙ lines-told form plan is ok few taken)
 
     by : (by_code : ℕ → Option Bool) (n : ℕ) → ((c : ℕ) → by_line c ≡ false → by_code c ≡ None) →
         lit_after (says_at by_code n) false (told_along form plan is) ≡ lit_after (says_at by_code n) false told
     by by_code n none = all (says_at by_code n) (at-head by_line by_code n none)
 
-    flash : lines.is_in_flash (signals s) ≡ is_some s.trip
-    flash = (run-sees plan is ok few taken).flash ∙ flash-is-a-trip s
+    flash : lines.is_in_flash (signals true s) ≡ is_some s.trip
+    flash = (run-sees true plan is ok few taken).flash ∙ flash-is-a-trip s

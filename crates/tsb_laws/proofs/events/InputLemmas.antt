@@ -3,9 +3,9 @@ use Rattle.std.proofs.Common.{◌≡◌, ◌∙◌, ℕ, Bool, true, false, ◌|
 use Rattle.std.proofs.lemmas.Bool.{cases_Bool}
 use Rattle.std.proofs.lemmas.List.{append-nil}
 use Rattle.std.proofs.lemmas.List.Elements.{filter-append}
-use Rattle.tsb_step.specs.tsb_types.Events.{told, begins, ends}
+use Rattle.tsb_step.specs.tsb_types.Events.{told, told_detectors, begins, ends}
 use Rattle.tsb_step.specs.tsb_types.Lists.{among}
-use Rattle.tsb_step.specs.tsb_types.Sets.{all_off, has_number, is_same_row}
+use Rattle.tsb_step.specs.tsb_types.Sets.{all_off, has_detector, has_number, is_same_row}
 use Rattle.tsb_step.specs.tsb_types.declared.event.Event.{Event}
 use Rattle.tsb_step.specs.tsb_types.declared.event.TheConstants as codes
 use Rattle.tsb_step.specs.tsb_types.declared.row.Row.{Row}
@@ -28,7 +28,7 @@ use Rattle.tsb_field_display.specs.SessionLaws.{is_of_input}
 use Rattle.tsb_text.specs.kept.Kept.{last_row}
 use Rattle.tsb_text.specs.recording.Along.{noted_after, told_along}
 use Rattle.tsb_laws.specs.Told.{AreSwitchesOff, InputsMakeTheLog, if_changed, log_of}
-use Rattle.tsb_laws.proofs.events.KeptLemmas.{Kept, both, first-alone, second-alone, all-told, none-of, not-among}
+use Rattle.tsb_laws.proofs.events.KeptLemmas.{Kept, both, first-alone, second-alone, all-told, all-told_detectors, none-of, not-among}
 
 -- ## What is kept of the events of an input
 
@@ -40,7 +40,7 @@ abbrev pub by_input : ℕ → Bool
 by_input c = among c input_codes
 
 kept-vehicle : (tick : ℕ) (noted : Noted) (row : Row) (v w : View) → Kept by_input (events.vehicle_events tick noted row v w) (events.vehicle_events tick noted row v w)
-kept-vehicle tick noted row v w = both (all-told by_input tick codes.VEHICLE_OFF _ refl) (all-told by_input tick codes.VEHICLE_ON _ refl)
+kept-vehicle tick noted row v w = both (all-told_detectors by_input tick codes.VEHICLE_OFF _ refl) (all-told_detectors by_input tick codes.VEHICLE_ON _ refl)
 
 kept-button : (tick : ℕ) (f : Found) → Kept by_input (events.button_events tick f) (events.button_events tick f)
 kept-button tick f = both (all-told by_input tick codes.PEDESTRIAN_OFF _ refl) (all-told by_input tick codes.PEDESTRIAN_ON _ refl)
@@ -98,8 +98,8 @@ others-kept tick noted v w s t =
 -- ## Rows
 
 -- a log without outputs has the inputs of vehicles
-by-row : (form : LogForm) (row : Row) (v : View) → form.outputs ≡ false → vehicles_in form row v ≡ has_number row.vehicles
-by-row form row v none = λ i d. if none i then v.outputs d else has_number row.vehicles d
+by-row : (form : LogForm) (row : Row) (v : View) → form.outputs ≡ false → vehicles_in form row v ≡ has_detector row.vehicles
+by-row form row v none = λ i d. if none i then v.outputs d else has_detector row.vehicles d
 
 or-off : (a b : Bool) → b ≡ false → (a || b) ≡ a
 or-off true b off = refl
@@ -115,11 +115,11 @@ pub row-told : (tick : ℕ) (f : Found) (v w : View) → f.noted.form.outputs �
     ≡ events_of_row f.noted.row (record { tick = tick; row = f.row })
 unfolding events_of_row
 row-told tick f v w none off off_now =
-    let was : vehicles_in f.noted.form f.noted.row v ≡ has_number f.noted.row.vehicles = by-row f.noted.form f.noted.row v none in
-    let now : vehicles_in f.noted.form f.row w ≡ has_number f.row.vehicles = by-row f.noted.form f.row w none in
+    let was : vehicles_in f.noted.form f.noted.row v ≡ has_detector f.noted.row.vehicles = by-row f.noted.form f.noted.row v none in
+    let now : vehicles_in f.noted.form f.row w ≡ has_detector f.row.vehicles = by-row f.noted.form f.row w none in
     let asked_was : requests f.noted.row v ≡ has_number f.noted.row.preempts = by-inputs f.noted.row v off in
     let asked : requests f.row w ≡ has_number f.row.preempts = by-inputs f.row w off_now in
-    λ i. (told tick 81 (ends (was i) (now i)) ++ told tick 82 (begins (was i) (now i)))
+    λ i. (told_detectors tick 81 (ends (was i) (now i)) ++ told_detectors tick 82 (begins (was i) (now i)))
     ++ (told tick 89 (ends (has_number f.noted.row.pedestrians) (has_number f.row.pedestrians)) ++ told tick 90 (begins (has_number f.noted.row.pedestrians) (has_number f.row.pedestrians)))
     ++ (told tick 102 (begins (asked_was i) (asked i)) ++ told tick 104 (ends (asked_was i) (asked i)))
 
@@ -127,19 +127,19 @@ row-told tick f v w none off off_now =
 other-told : (tick : ℕ) (noted : Noted) (v w : View) → noted.form.outputs ≡ false → ((n : ℕ) → v.switches n ≡ false) → ((n : ℕ) → w.switches n ≡ false) →
     events.vehicle_events tick noted noted.row v w ++ events.request_events tick noted.row noted.row v w ≡ []
 other-told tick noted v w by_inputs off off_now =
-    let was : vehicles_in noted.form noted.row v ≡ has_number noted.row.vehicles = by-row noted.form noted.row v by_inputs in
-    let now : vehicles_in noted.form noted.row w ≡ has_number noted.row.vehicles = by-row noted.form noted.row w by_inputs in
+    let was : vehicles_in noted.form noted.row v ≡ has_detector noted.row.vehicles = by-row noted.form noted.row v by_inputs in
+    let now : vehicles_in noted.form noted.row w ≡ has_detector noted.row.vehicles = by-row noted.form noted.row w by_inputs in
     let asked_was : requests noted.row v ≡ has_number noted.row.preempts = by-inputs noted.row v off in
     let asked : requests noted.row w ≡ has_number noted.row.preempts = by-inputs noted.row w off_now in
-    (λ i. (told tick 81 (ends (was i) (now i)) ++ told tick 82 (begins (was i) (now i))) ++ (told tick 102 (begins (asked_was i) (asked i)) ++ told tick 104 (ends (asked_was i) (asked i))))
-    ∙ (λ i. (none.none-told tick 81 (has_number noted.row.vehicles) i ++ none.none-told tick 82 (has_number noted.row.vehicles) i)
+    (λ i. (told_detectors tick 81 (ends (was i) (now i)) ++ told_detectors tick 82 (begins (was i) (now i))) ++ (told tick 102 (begins (asked_was i) (asked i)) ++ told tick 104 (ends (asked_was i) (asked i))))
+    ∙ (λ i. (none.none-told_detectors tick 81 (has_detector noted.row.vehicles) i ++ none.none-told_detectors tick 82 (has_detector noted.row.vehicles) i)
     ++ (none.none-told tick 102 (has_number noted.row.preempts) i ++ none.none-told tick 104 (has_number noted.row.preempts) i))
 
 -- the same inputs again have no event
 no-change : (tick : ℕ) (row : Row) → events_of_row row (record { tick = tick; row = row }) ≡ []
 unfolding events_of_row
 no-change tick row =
-    λ i. (none.none-told tick 81 (has_number row.vehicles) i ++ none.none-told tick 82 (has_number row.vehicles) i)
+    λ i. (none.none-told_detectors tick 81 (has_detector row.vehicles) i ++ none.none-told_detectors tick 82 (has_detector row.vehicles) i)
     ++ (none.none-told tick 89 (has_number row.pedestrians) i ++ none.none-told tick 90 (has_number row.pedestrians) i)
     ++ (none.none-told tick 102 (has_number row.preempts) i ++ none.none-told tick 104 (has_number row.preempts) i)
 

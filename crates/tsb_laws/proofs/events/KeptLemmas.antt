@@ -5,7 +5,7 @@ use Rattle.std.proofs.lemmas.Bool.{and_parts, ne_eqb}
 use Rattle.std.proofs.lemmas.Bool.Decides.{nat_tests}
 use Rattle.std.proofs.lemmas.List.{append-nil}
 use Rattle.std.proofs.lemmas.List.Elements.{All-head, All-tail, filter-append}
-use Rattle.tsb_step.specs.tsb_types.Events.{event, told, numbers_with}
+use Rattle.tsb_step.specs.tsb_types.Events.{event, told, told_detectors, numbers_with, detectors_with}
 use Rattle.tsb_step.specs.tsb_types.Lists.{among}
 use Rattle.tsb_step.specs.tsb_types.declared.event.Event.{Event}
 use Rattle.tsb_events.proofs.OrderLemmas.{IsWithin, Span}
@@ -40,6 +40,9 @@ none-of-code by tick code (n ∷ ns) fails = rw fails (none-of-code by tick code
 
 pub all-told : (by : ℕ → Bool) (tick code : ℕ) (f : ℕ → Bool) → by code ≡ true → Kept by (told tick code f) (told tick code f)
 all-told by tick code f passes = record { kept = all-of-code by tick code (numbers_with f) passes }
+
+pub all-told_detectors : (by : ℕ → Bool) (tick code : ℕ) (f : ℕ → Bool) → by code ≡ true → Kept by (told_detectors tick code f) (told_detectors tick code f)
+all-told_detectors by tick code f passes = record { kept = all-of-code by tick code (detectors_with f) passes }
 
 pub none-told : (by : ℕ → Bool) (tick code : ℕ) (f : ℕ → Bool) → by code ≡ false → Kept by (told tick code f) []
 none-told by tick code f fails = record { kept = none-of-code by tick code (numbers_with f) fails }

@@ -1,11 +1,13 @@
 -- The events of display lines, as the events of the same codes of what a log sees.
-use Rattle.std.proofs.Common.{◌≡◌, ◌∙◌, ◌⊎◌, ℕ, ◌≤◌, ◌==◌, Bool, true, false, not, ◌&&◌, List, [], ◌∷◌, ◌++◌, map, filter, Option, Some, None, IfSome, option_map, if◌then◌else◌, refl, sym, ap, arith, inl, inr, append_assoc}
+use Rattle.std.proofs.Common.{◌≡◌, ◌∙◌, ◌⊎◌, ℕ, ◌≤◌, ◌==◌, nat_le, Bool, true, false, not, ◌&&◌, ◌||◌, List, [], ◌∷◌, ◌++◌, map, filter, Option, Some, None, IfSome, option_map, if◌then◌else◌, refl, sym, ap, arith, inl, inr, append_assoc}
 use Rattle.std.proofs.lemmas.Bool.{cases_Bool, cases_eq, eq-eqb, ne_eqb, and_right}
+use Rattle.std.proofs.lemmas.List.Elements.{filter-append}
 use Rattle.tsb_step.specs.tsb_types.Clip.{Agree}
 use Rattle.tsb_step.specs.tsb_types.Events.{event, told, begins, ends, either, numbers_with}
-use Rattle.tsb_step.specs.tsb_types.Lists.{among, is}
+use Rattle.tsb_step.specs.tsb_types.Lists.{among, is, run_from}
 use Rattle.tsb_step.specs.tsb_types.declared.event.Event.{Event}
 use Rattle.tsb_step.specs.tsb_types.declared.event.TheConstants as codes
+use Rattle.tsb_step.specs.tsb_types.declared.limits.TheConstants.{PREEMPTS}
 use Rattle.tsb_step.specs.tsb_types.declared.stage.Stage.{Stage}
 use Rattle.tsb_step.proofs.tsb_types.NumberLemmas.{filter-none, numbers-least}
 use Rattle.tsb_step.specs.Events as events
@@ -17,6 +19,7 @@ use Rattle.tsb_field_display.specs.declared.shown.Shown.{Shown}
 use Rattle.tsb_field_display.specs.declared.shown.Signals.{Signals}
 use Rattle.tsb_field_display.specs.Events as lines
 use Rattle.tsb_field_display.specs.Events.{is_green, is_yellow, is_walk, is_clearance, is_overlap_green, is_overlap_yellow, is_in_flash}
+use Rattle.tsb_laws.specs.Told.{is_on_line, is_of_line}
 use Rattle.tsb_laws.proofs.events.KeptLemmas.{Kept, both, first-alone, second-alone, all-told, none-told, none-of, not-among}
 
 -- ## What is kept of the events of an input
@@ -143,11 +146,126 @@ others-kept tick noted v w s t = all.kept ∙ whole tick v w
         (none-of (cycle-span tick v w) (not-among 150 151 line_codes refl)))
         (kept-flash tick v w)
 
+-- ## Of what the line shows
+
+-- a line shows overlaps 1 to 4, and a wide line all
+abbrev lit_on : Bool → (ℕ → Bool) → ℕ → Bool
+lit_on is_wide test o = (is_wide || nat_le o 4) && test o
+
+-- what a line shows of a view
+abbrev pub on_line : Bool → View → View
+on_line is_wide v = record v { overlap_greens = lit_on is_wide v.overlap_greens; overlap_yellows = lit_on is_wide v.overlap_yellows }
+
+filter-twice : (p q : Event → Bool) (es : List Event) → filter (λ e. p e && q e) es ≡ filter q (filter p es)
+filter-twice p q [] = refl
+filter-twice p q (e ∷ es) = elim (cases_Bool (p e)) [
+  | inl h ↦ elim (cases_Bool (q e)) [
+    | inl k ↦ rw (h, k) (ap (λ (fs : List Event). e ∷ fs) (filter-twice p q es))
+    | inr k ↦ rw (h, k) (filter-twice p q es)
+  ]
+  | inr h ↦ rw h (filter-twice p q es)
+]
+
+filter-whole : (es : List Event) → filter (λ e. true) es ≡ es
+filter-whole [] = refl
+filter-whole (e ∷ es) = ap (λ (fs : List Event). e ∷ fs) (filter-whole es)
+
+-- a test that passes all events of a code
+all-of : (test : Event → Bool) (tick code : ℕ) → ((n : ℕ) → test (event tick code n) ≡ true) → (ns : List ℕ) →
+    filter test (map (λ n. event tick code n) ns) ≡ map (λ n. event tick code n) ns
+all-of test tick code passes [] = refl
+all-of test tick code passes (n ∷ ns) = rw (passes n) (ap (λ (es : List Event). event tick code n ∷ es) (all-of test tick code passes ns))
+
+-- one that passes those of the numbers that pass another
+few-of : (test : Event → Bool) (tick code : ℕ) (f g few : ℕ → Bool) → ((n : ℕ) → test (event tick code n) ≡ few n) → ((n : ℕ) → g n ≡ (few n && f n)) →
+    (ns : List ℕ) → filter test (map (λ n. event tick code n) (filter f ns)) ≡ map (λ n. event tick code n) (filter g ns)
+few-of test tick code f g few passes each [] = refl
+few-of test tick code f g few passes each (n ∷ ns) =
+    let rest : filter test (map (λ n. event tick code n) (filter f ns)) ≡ map (λ n. event tick code n) (filter g ns) = few-of test tick code f g few passes each ns in
+    elim (cases_Bool (f n)) [
+      | inl h ↦ elim (cases_Bool (few n)) [
+        | inl k ↦
+            let on : test (event tick code n) ≡ true = passes n ∙ k in
+            let also : g n ≡ true = each n ∙ and-of (few n) (f n) k h in
+            rw (h, on, also) (ap (λ (es : List Event). event tick code n ∷ es) rest)
+        | inr k ↦
+            let off : test (event tick code n) ≡ false = passes n ∙ k in
+            let also : g n ≡ false = each n ∙ and-left (few n) (f n) k in
+            rw (h, off, also) rest
+      ]
+      | inr h ↦ let also : g n ≡ false = each n ∙ and_right (few n) (f n) h in rw (h, also) rest
+    ]
+  where
+    and-of : (a b : Bool) → a ≡ true → b ≡ true → (a && b) ≡ true
+    and-of a b h k = rw (h, k) refl
+
+    and-left : (a b : Bool) → a ≡ false → (a && b) ≡ false
+    and-left a b h = rw h refl
+
+begins-few : (f g : ℕ → Bool) (o : ℕ) → begins (lit_on false f) (lit_on false g) o ≡ (nat_le o 4 && begins f g o)
+begins-few f g o = go (nat_le o 4) (f o) (g o)
+  where
+    go : (few a b : Bool) → ((few && b) && not (few && a)) ≡ (few && (b && not a))
+    go true a b = refl
+    go false a b = refl
+
+either-few : (f g h k : ℕ → Bool) (o : ℕ) → begins (either (lit_on false f) (lit_on false g)) (either (lit_on false h) (lit_on false k)) o
+    ≡ (nat_le o 4 && begins (either f g) (either h k) o)
+either-few f g h k o = go (nat_le o 4) (f o) (g o) (h o) (k o)
+  where
+    go : (few a b c d : Bool) → (((few && c) || (few && d)) && not ((few && a) || (few && b))) ≡ (few && ((c || d) && not (a || b)))
+    go true a b c d = refl
+    go false a b c d = refl
+
+-- the events of lines, one after the other
+record Shows (es fs : List Event) : Type 0 where
+  shown : filter (is_on_line false) es ≡ fs
+
+join : {es fs gs hs : List Event} → Shows es gs → Shows fs hs → Shows (es ++ fs) (gs ++ hs)
+join {es = es} {fs = fs} one other = record { shown = filter-append (is_on_line false) es fs ∙ λ i. one.shown i ++ other.shown i }
+
+all-shown : (tick code : ℕ) (f : ℕ → Bool) → ((n : ℕ) → is_on_line false (event tick code n) ≡ true) → Shows (told tick code f) (told tick code f)
+all-shown tick code f passes = record { shown = all-of (is_on_line false) tick code passes (numbers_with f) }
+
+few-shown : (tick code : ℕ) (f g : ℕ → Bool) → ((n : ℕ) → is_on_line false (event tick code n) ≡ nat_le n 4) → ((n : ℕ) → g n ≡ (nat_le n 4 && f n)) →
+    Shows (told tick code f) (told tick code g)
+few-shown tick code f g passes each = record { shown = few-of (is_on_line false) tick code f g (λ n. nat_le n 4) passes each (run_from 1 16) }
+
+flash-shown : (tick : ℕ) (v w : View) → Shows (events.flash_events tick v w) (events.flash_events tick v w)
+flash-shown tick v w = go (w.flashes && not v.flashes) (v.flashes && not w.flashes)
+  where
+    go : (a b : Bool) → Shows
+        (if a then event tick codes.FLASH_CHANGES codes.FLASH ∷ [] else (if b then event tick codes.FLASH_CHANGES codes.NO_FLASH ∷ [] else []))
+        (if a then event tick codes.FLASH_CHANGES codes.FLASH ∷ [] else (if b then event tick codes.FLASH_CHANGES codes.NO_FLASH ∷ [] else []))
+    go true b = record { shown = refl }
+    go false true = record { shown = refl }
+    go false false = record { shown = refl }
+
+lines-shown : (tick : ℕ) (v w : View) → Shows (lines_of tick v w) (lines_of tick (on_line false v) (on_line false w))
+lines-shown tick v w =
+    join (join (join (join (join (join (join (all-shown tick 1 _ (λ n. refl)) (all-shown tick 7 _ (λ n. refl))) (all-shown tick 8 _ (λ n. refl))) (all-shown tick 9 _ (λ n. refl)))
+    (join (join (all-shown tick 21 _ (λ n. refl)) (all-shown tick 22 _ (λ n. refl))) (all-shown tick 23 _ (λ n. refl))))
+    (join (join (few-shown tick 61 _ _ (λ n. refl) (begins-few v.overlap_greens w.overlap_greens))
+    (few-shown tick 63 _ _ (λ n. refl) (begins-few v.overlap_yellows w.overlap_yellows)))
+    (few-shown tick 64 _ _ (λ n. refl) (either-few w.overlap_greens w.overlap_yellows v.overlap_greens v.overlap_yellows))))
+    (all-shown tick 105 _ (λ n. refl))) (flash-shown tick v w)
+
+-- a wide line shows all that events of lines are about
+pub wide-whole : (es : List Event) → filter (is_of_line true) es ≡ filter (λ e. by_line e.code) es
+wide-whole es = filter-twice (λ (e : Event). by_line e.code) (is_on_line true) es ∙ filter-whole (filter (λ e. by_line e.code) es)
+
+-- so of the events of lines those of what the line shows are the events of what it shows
+pub shown-kept : (is_wide : Bool) (es : List Event) (tick : ℕ) (v w : View) → filter (λ e. by_line e.code) es ≡ lines_of tick v w →
+    filter (is_of_line is_wide) es ≡ lines_of tick (on_line is_wide v) (on_line is_wide w)
+shown-kept true es tick v w e = wide-whole es ∙ e
+shown-kept false es tick v w e =
+    filter-twice (λ (e : Event). by_line e.code) (is_on_line false) es ∙ ap (filter (is_on_line false)) e ∙ (lines-shown tick v w).shown
+
 -- ## What lines show is what a log sees
 
--- a preempt in service is one of the four
+-- a preempt in service is one of them
 abbrev pub IsKnown : Option (ℕ × Stage) → Type 0
-IsKnown served = IfSome (option_map (λ (service : ℕ × Stage). service.0) served) (λ n. (1 ≤ n) × (n ≤ 4))
+IsKnown served = IfSome (option_map (λ (service : ℕ × Stage). service.0) served) (λ n. (1 ≤ n) × (n ≤ PREEMPTS))
 
 -- these signals show what this view sees; `served` is the preempt in service and its stage
 pub record Sees (s : Signals) (v : View) (served : Option (ℕ × Stage)) : Type 0 where

@@ -1,8 +1,9 @@
 -- The events of a run show which detectors and requests of preempts are on at its end.
 use Rattle.std.proofs.Common.{◌≡◌, ◌∙◌, ℕ, ◌≤◌, Bool, true, false, not, ◌&&◌, ◌||◌, List, [], ◌∷◌, ◌++◌, filter, Option, None, if◌then◌else◌, refl, sym, ap}
-use Rattle.tsb_step.specs.tsb_types.Events.{begins, ends, told}
-use Rattle.tsb_step.specs.tsb_types.Sets.{all_off, has_number}
+use Rattle.tsb_step.specs.tsb_types.Events.{begins, detectors_with, ends, numbers_with, told}
+use Rattle.tsb_step.specs.tsb_types.Sets.{all_off, has_detector, has_number}
 use Rattle.tsb_step.specs.tsb_types.declared.event.Event.{Event}
+use Rattle.tsb_step.specs.tsb_types.declared.limits.TheConstants.{VEHICLE_DETECTORS}
 use Rattle.tsb_step.specs.tsb_types.declared.row.Row.{Row}
 use Rattle.tsb_step.proofs.tsb_types.SetLemmas.{names-zero}
 use Rattle.tsb_step.specs.tsb_plan.Plan.{Plan}
@@ -16,7 +17,7 @@ use Rattle.tsb_step.specs.Runs.{replay}
 use Rattle.tsb_step.specs.State.{State, start}
 use Rattle.tsb_step.specs.Step.{step}
 use Rattle.tsb_field_display.specs.ReadBack.{lit_after, says_at}
-use Rattle.tsb_field_display.proofs.LawLemmas.{after, begun-or-ended, effect, is_lit_of, leads-told, lit-append}
+use Rattle.tsb_field_display.proofs.LawLemmas.{Leads, after, begun-or-ended, effect, is_lit_of, leads-detectors, leads-quiet, leads-told, lit-append}
 use Rattle.tsb_text.specs.kept.Kept.{last_row}
 use Rattle.tsb_text.specs.recording.Along.{noted_after, told_along}
 use Rattle.tsb_laws.specs.Told.{RunsTellTheInputs, says_pedestrian, says_preempt, says_vehicle}
@@ -52,25 +53,41 @@ abbrev by_requests : (ℕ → Option Bool) → ℕ → Row → Row → View → 
 by_requests by_code d last row v w lit =
     effect (by_code 104) (ends (requests last v) (requests row w) d) (effect (by_code 102) (begins (requests last v) (requests row w) d) lit)
 
-ticks-say : (by_code : ℕ → Option Bool) (d tick : ℕ) (noted : Noted) (row : Row) (v w : View) (lit : Bool) → 1 ≤ d → d ≤ 16 →
-    lit_after (says_at by_code d) lit (vehicle_part tick noted row v w ++ button_part tick noted.row row ++ request_part tick noted.row row v w)
-    ≡ by_requests by_code d noted.row row v w (by_buttons by_code d noted.row row (by_vehicles by_code d noted row v w lit))
-ticks-say by_code d tick noted row v w lit from within = is_lit_of (
-    after (after (after (leads-told by_code d lit tick 81 (ends (vehicles_in noted.form noted.row v) (vehicles_in noted.form row w)) from within)
-    (leads-told by_code d _ tick 82 (begins (vehicles_in noted.form noted.row v) (vehicles_in noted.form row w)) from within))
-    (after (leads-told by_code d _ tick 89 (ends (has_number noted.row.pedestrians) (has_number row.pedestrians)) from within)
-    (leads-told by_code d _ tick 90 (begins (has_number noted.row.pedestrians) (has_number row.pedestrians)) from within)))
-    (after (leads-told by_code d _ tick 102 (begins (requests noted.row v) (requests row w)) from within)
-    (leads-told by_code d _ tick 104 (ends (requests noted.row v) (requests row w)) from within)))
+vehicles-say : (by_code : ℕ → Option Bool) (d tick : ℕ) (noted : Noted) (row : Row) (v w : View) (lit : Bool) → 1 ≤ d → d ≤ VEHICLE_DETECTORS →
+    Leads (says_at by_code d) lit (vehicle_part tick noted row v w) (by_vehicles by_code d noted row v w lit)
+vehicles-say by_code d tick noted row v w lit from within =
+    after (leads-detectors by_code d lit tick 81 (ends (vehicles_in noted.form noted.row v) (vehicles_in noted.form row w)) from within)
+    (leads-detectors by_code d _ tick 82 (begins (vehicles_in noted.form noted.row v) (vehicles_in noted.form row w)) from within)
 
-others-say : (by_code : ℕ → Option Bool) (d tick : ℕ) (noted : Noted) (v w : View) (lit : Bool) → 1 ≤ d → d ≤ 16 →
-    lit_after (says_at by_code d) lit (vehicle_part tick noted noted.row v w ++ request_part tick noted.row noted.row v w)
-    ≡ by_requests by_code d noted.row noted.row v w (by_vehicles by_code d noted noted.row v w lit)
-others-say by_code d tick noted v w lit from within = is_lit_of (
-    after (after (leads-told by_code d lit tick 81 (ends (vehicles_in noted.form noted.row v) (vehicles_in noted.form noted.row w)) from within)
-    (leads-told by_code d _ tick 82 (begins (vehicles_in noted.form noted.row v) (vehicles_in noted.form noted.row w)) from within))
-    (after (leads-told by_code d _ tick 102 (begins (requests noted.row v) (requests noted.row w)) from within)
-    (leads-told by_code d _ tick 104 (ends (requests noted.row v) (requests noted.row w)) from within)))
+vehicles-quiet : (by_code : ℕ → Option Bool) (d tick : ℕ) (noted : Noted) (row : Row) (v w : View) (lit : Bool) → by_code 81 ≡ None → by_code 82 ≡ None →
+    Leads (says_at by_code d) lit (vehicle_part tick noted row v w) lit
+vehicles-quiet by_code d tick noted row v w lit off on =
+    after (leads-quiet by_code d lit tick 81 (detectors_with (ends (vehicles_in noted.form noted.row v) (vehicles_in noted.form row w))) off)
+    (leads-quiet by_code d lit tick 82 (detectors_with (begins (vehicles_in noted.form noted.row v) (vehicles_in noted.form row w))) on)
+
+buttons-say : (by_code : ℕ → Option Bool) (d tick : ℕ) (last row : Row) (lit : Bool) → 1 ≤ d → d ≤ 16 →
+    Leads (says_at by_code d) lit (button_part tick last row) (by_buttons by_code d last row lit)
+buttons-say by_code d tick last row lit from within =
+    after (leads-told by_code d lit tick 89 (ends (has_number last.pedestrians) (has_number row.pedestrians)) from within)
+    (leads-told by_code d _ tick 90 (begins (has_number last.pedestrians) (has_number row.pedestrians)) from within)
+
+buttons-quiet : (by_code : ℕ → Option Bool) (d tick : ℕ) (last row : Row) (lit : Bool) → by_code 89 ≡ None → by_code 90 ≡ None →
+    Leads (says_at by_code d) lit (button_part tick last row) lit
+buttons-quiet by_code d tick last row lit off on =
+    after (leads-quiet by_code d lit tick 89 (numbers_with (ends (has_number last.pedestrians) (has_number row.pedestrians))) off)
+    (leads-quiet by_code d lit tick 90 (numbers_with (begins (has_number last.pedestrians) (has_number row.pedestrians))) on)
+
+requests-say : (by_code : ℕ → Option Bool) (d tick : ℕ) (last row : Row) (v w : View) (lit : Bool) → 1 ≤ d → d ≤ 16 →
+    Leads (says_at by_code d) lit (request_part tick last row v w) (by_requests by_code d last row v w lit)
+requests-say by_code d tick last row v w lit from within =
+    after (leads-told by_code d lit tick 102 (begins (requests last v) (requests row w)) from within)
+    (leads-told by_code d _ tick 104 (ends (requests last v) (requests row w)) from within)
+
+requests-quiet : (by_code : ℕ → Option Bool) (d tick : ℕ) (last row : Row) (v w : View) (lit : Bool) → by_code 102 ≡ None → by_code 104 ≡ None →
+    Leads (says_at by_code d) lit (request_part tick last row v w) lit
+requests-quiet by_code d tick last row v w lit on off =
+    after (leads-quiet by_code d lit tick 102 (numbers_with (begins (requests last v) (requests row w))) on)
+    (leads-quiet by_code d lit tick 104 (numbers_with (ends (requests last v) (requests row w))) off)
 
 ended-or-begun : (was now : Bool) → (if now && not was then true else (if was && not now then false else was)) ≡ now
 ended-or-begun true true = refl
@@ -143,7 +160,7 @@ none-or false a off = off
 
 vehicles-off : (form : LogForm) (d : ℕ) (plan : Plan) → vehicles_in form all_off (view (start plan)) d ≡ false
 unfolding view
-vehicles-off form d plan = none-or form.outputs (has_number all_off.vehicles d) (names-zero d)
+vehicles-off form d plan = none-or form.outputs (has_detector all_off.vehicles d) (names-zero d)
 
 requests-off : (n : ℕ) (plan : Plan) → requests all_off (view (start plan)) n ≡ false
 unfolding view
@@ -156,24 +173,36 @@ tell-the-inputs form plan is = record {
   vehicles = λ d from within. run-says form says_vehicle d (λ row s. vehicles_in form row (view s) d) (record {
     others = none-vehicle;
     off = vehicles-off form d;
-    tick = λ n last row s t. ticks-say says_vehicle d n (record { form = form; row = last }) row (view s) (view t) (vehicles_in form last (view s) d) from within
+    tick = λ n last row s t. is_lit_of (
+        after (after (vehicles-say says_vehicle d n (record { form = form; row = last }) row (view s) (view t) (vehicles_in form last (view s) d) from within)
+        (buttons-quiet says_vehicle d n last row _ refl refl)) (requests-quiet says_vehicle d n last row (view s) (view t) _ refl refl))
         ∙ ended-or-begun (vehicles_in form last (view s) d) (vehicles_in form row (view t) d);
-    other = λ n row s t. others-say says_vehicle d n (record { form = form; row = row }) (view s) (view t) (vehicles_in form row (view s) d) from within
+    other = λ n row s t. is_lit_of (
+        after (vehicles-say says_vehicle d n (record { form = form; row = row }) row (view s) (view t) (vehicles_in form row (view s) d) from within)
+        (requests-quiet says_vehicle d n row row (view s) (view t) _ refl refl))
         ∙ ended-or-begun (vehicles_in form row (view s) d) (vehicles_in form row (view t) d);
   }) plan is;
   pedestrians = λ d from within. run-says form says_pedestrian d (λ row s. has_number row.pedestrians d) (record {
     others = none-pedestrian;
     off = λ plan. names-zero d;
-    tick = λ n last row s t. ticks-say says_pedestrian d n (record { form = form; row = last }) row (view s) (view t) (has_number last.pedestrians d) from within
+    tick = λ n last row s t. is_lit_of (
+        after (after (vehicles-quiet says_pedestrian d n (record { form = form; row = last }) row (view s) (view t) (has_number last.pedestrians d) refl refl)
+        (buttons-say says_pedestrian d n last row _ from within)) (requests-quiet says_pedestrian d n last row (view s) (view t) _ refl refl))
         ∙ ended-or-begun (has_number last.pedestrians d) (has_number row.pedestrians d);
-    other = λ n row s t. others-say says_pedestrian d n (record { form = form; row = row }) (view s) (view t) (has_number row.pedestrians d) from within;
+    other = λ n row s t. is_lit_of (
+        after (vehicles-quiet says_pedestrian d n (record { form = form; row = row }) row (view s) (view t) (has_number row.pedestrians d) refl refl)
+        (requests-quiet says_pedestrian d n row row (view s) (view t) _ refl refl));
   }) plan is;
   preempts = λ n from within. run-says form says_preempt n (λ row s. requests row (view s) n) (record {
     others = none-preempt;
     off = requests-off n;
-    tick = λ k last row s t. ticks-say says_preempt n k (record { form = form; row = last }) row (view s) (view t) (requests last (view s) n) from within
+    tick = λ k last row s t. is_lit_of (
+        after (after (vehicles-quiet says_preempt n k (record { form = form; row = last }) row (view s) (view t) (requests last (view s) n) refl refl)
+        (buttons-quiet says_preempt n k last row _ refl refl)) (requests-say says_preempt n k last row (view s) (view t) _ from within))
         ∙ begun-or-ended (requests last (view s) n) (requests row (view t) n);
-    other = λ k row s t. others-say says_preempt n k (record { form = form; row = row }) (view s) (view t) (requests row (view s) n) from within
+    other = λ k row s t. is_lit_of (
+        after (vehicles-quiet says_preempt n k (record { form = form; row = row }) row (view s) (view t) (requests row (view s) n) refl refl)
+        (requests-say says_preempt n k row row (view s) (view t) _ from within))
         ∙ begun-or-ended (requests row (view s) n) (requests row (view t) n);
   }) plan is;
 }

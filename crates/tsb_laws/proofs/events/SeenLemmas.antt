@@ -3,6 +3,7 @@ use Rattle.std.proofs.Common.{◌≡◌, ◌∙◌, ℕ, ◌+◌, ◌<◌, ◌�
 use Rattle.std.specs.List.{list_any}
 use Rattle.std.proofs.lemmas.Bool.{and_parts, cases_Bool, cases_lt, true≢false}
 use Rattle.std.proofs.lemmas.Bool.Decides.{nat_tests}
+use Rattle.tsb_step.specs.tsb_types.declared.limits.TheConstants.{OVERLAPS, PREEMPTS}
 use Rattle.tsb_step.specs.tsb_types.Intervals.{in_service, is_green, is_walk, is_clearance, is_dont_walk, is_yellow}
 use Rattle.tsb_step.specs.tsb_types.Lists.{run_from}
 use Rattle.tsb_step.specs.tsb_types.Sets.{has_number}
@@ -31,9 +32,11 @@ use Rattle.tsb_step.specs.State.{State, Tripped, interval, pedestrian_part}
 use Rattle.tsb_text.specs.Answers.{preempt_in_service}
 use Rattle.tsb_step.specs.Signs.{local}
 use Rattle.tsb_field_display.specs.Events.{is_in_flash}
+use Rattle.tsb_field_display.specs.Reading.{overlaps_in}
 use Rattle.tsb_field_display.proofs.HeadLemmas.{Shows, line-shows}
 use Rattle.tsb_laws.specs.Told.{signals}
-use Rattle.tsb_laws.proofs.events.LineLemmas.{IsKnown, Sees}
+use Rattle.tsb_laws.proofs.events.LineLemmas.{IsKnown, Sees, on_line}
+use Rattle.tsb_laws.proofs.events.ServedLemmas.{AreKnown}
 
 -- ## Vehicle heads
 
@@ -139,17 +142,20 @@ clearance-seen s p enabled = go s.trip
 
 -- ## Overlaps
 
--- there are four
-four-alone : (o : ℕ) (shows sees : Bool) → 1 ≤ o → (o ≤ 4 → shows ≡ sees) → (4 < o → shows ≡ false) → shows ≡ (is_overlap o && sees)
-four-alone o shows sees from within above = elim (cases_Bool (nat_le o 4)) [
+-- a line shows the first four, and a wide line all
+few-alone : (is_wide : Bool) (o : ℕ) (shows sees : Bool) → 1 ≤ o → o ≤ OVERLAPS → (o ≤ overlaps_in is_wide → shows ≡ sees) →
+    (overlaps_in is_wide < o → shows ≡ false) → shows ≡ ((is_wide || nat_le o 4) && (is_overlap o && sees))
+few-alone true o shows sees from within low high =
+    let first : nat_le 1 o ≡ true = grind (arith, nat_tests) in
+    let last : nat_le o OVERLAPS ≡ true = grind (arith, nat_tests) in
+    rw (first, last) (low within)
+few-alone false o shows sees from within low high = elim (cases_Bool (nat_le o 4)) [
   | inl h ↦
       let small : o ≤ 4 = grind (arith, nat_tests) in
       let first : nat_le 1 o ≡ true = grind (arith, nat_tests) in
-      rw (first, h) (within small)
-  | inr h ↦
-      let first : nat_le 1 o ≡ true = grind (arith, nat_tests) in
-      let large : 4 < o = grind (arith, nat_tests) in
-      rw (first, h) (above large)
+      let last : nat_le o OVERLAPS ≡ true = grind (arith, nat_tests) in
+      rw (h, first, last) (low small)
+  | inr h ↦ let large : 4 < o = grind (arith, nat_tests) in rw h (high large)
 ]
 
 -- ## Flash
@@ -203,60 +209,60 @@ flashing-seen s p = go s.trip
     go (Some t) = flashing-all (is_enabled s.plan p) (interval s p)
     go None = flashing-none (is_enabled s.plan p) (interval s p)
 
-flash-seen : (s : State) (served : Option ℕ) → Shows (display s) served (signals s) → s.plan.phase_count ≤ 16 → some_enabled s.plan ≡ true →
-    is_in_flash (signals s) ≡ is_some s.trip
-flash-seen s served shows few enabled = go s.trip refl
+flash-seen : (is_wide : Bool) (s : State) (served : Option ℕ) → Shows is_wide (display s) served (signals is_wide s) → s.plan.phase_count ≤ 16 → some_enabled s.plan ≡ true →
+    is_in_flash (signals is_wide s) ≡ is_some s.trip
+flash-seen is_wide s served shows few enabled = go s.trip refl
   where
-    flashes : (p : ℕ) → 1 ≤ p → p ≤ 16 → has_number (signals s).vehicles.flashing p ≡ (is_some s.trip && is_enabled s.plan p)
+    flashes : (p : ℕ) → 1 ≤ p → p ≤ 16 → has_number (signals is_wide s).vehicles.flashing p ≡ (is_some s.trip && is_enabled s.plan p)
     flashes p from within = shows.flashing p from within ∙ flashing-seen s p
 
-    none : s.trip ≡ None → (p : ℕ) → has_number (signals s).vehicles.flashing p ≡ false
+    none : s.trip ≡ None → (p : ℕ) → has_number (signals is_wide s).vehicles.flashing p ≡ false
     none e zero = refl
     none e (suc k) = elim (cases_lt 16 (suc k)) [
       | inl above ↦ shows.few_flashing (suc k) above
       | inr within ↦ flashes (suc k) (omega arith) within ∙ ap (λ (t : Option Tripped). is_some t && is_enabled s.plan (suc k)) e
     ]
 
-    go : (trip : Option Tripped) → s.trip ≡ trip → is_in_flash (signals s) ≡ is_some trip
-    go None e = ap is_some (first-none (has_number (signals s).vehicles.flashing) (run_from 1 16) (none e))
+    go : (trip : Option Tripped) → s.trip ≡ trip → is_in_flash (signals is_wide s) ≡ is_some trip
+    go None e = ap is_some (first-none (has_number (signals is_wide s).vehicles.flashing) (run_from 1 16) (none e))
     go (Some t) e =
-        first-any (has_number (signals s).vehicles.flashing) (run_from 1 16)
-        ∙ any-in-longer (is_enabled s.plan) (has_number (signals s).vehicles.flashing) 1 s.plan.phase_count 16 few
+        first-any (has_number (signals is_wide s).vehicles.flashing) (run_from 1 16)
+        ∙ any-in-longer (is_enabled s.plan) (has_number (signals is_wide s).vehicles.flashing) 1 s.plan.phase_count 16 few
         (λ p from below on. flashes p from (omega (arith, below, few)) ∙ ap (λ (u : Option Tripped). is_some u && is_enabled s.plan p) e ∙ on) enabled
 
 -- ## All of it
 
-pub preempt-known : (s : State) → IsGood s → IsKnown (stage s)
-preempt-known s good = go s.preempts.service refl
+pub preempt-known : (s : State) → AreKnown s.preempts → IsKnown (stage s)
+preempt-known s known = go s.preempts.service refl
   where
     go : (o : Option Service) → s.preempts.service ≡ o → IsKnown (stage_of o)
     go None e = tt
     go (Some x) e =
-        let parts = and_parts (nat_le 1 x.preempt) (nat_le x.preempt 4) (good.service x e).preempt in
+        let parts = and_parts (nat_le 1 x.preempt) (nat_le x.preempt PREEMPTS) (known.service x e) in
         let first : nat_le 1 x.preempt ≡ true = parts.0 in
-        let last : nat_le x.preempt 4 ≡ true = parts.1 in
+        let last : nat_le x.preempt PREEMPTS ≡ true = parts.1 in
         (grind (arith, nat_tests), grind (arith, nat_tests))
 
-pub sees : (s : State) → IsGood s → ((p : ℕ) → in_service (interval s p) ≡ true → is_enabled s.plan p ≡ true) → s.plan.phase_count ≤ 16 →
-    Sees (signals s) (view s) (stage s)
+pub sees : (is_wide : Bool) (s : State) → IsGood s → AreKnown s.preempts → ((p : ℕ) → in_service (interval s p) ≡ true → is_enabled s.plan p ≡ true) → s.plan.phase_count ≤ 16 →
+    Sees (signals is_wide s) (on_line is_wide (view s)) (stage s)
 unfolding view
-sees s good enabled few = record {
+sees is_wide s good served enabled few = record {
   greens = λ p from within. shows.greens p from within ∙ green-seen s p (enabled p);
   yellows = λ p from within. shows.yellows p from within ∙ yellow-seen s p (enabled p);
   walks = λ p from within. shows.walks p from within ∙ walk-seen s p (walking p);
   clearances = λ p from within. shows.clearances p from within ∙ clearance-seen s p (walking p);
   overlap_greens = λ o from within.
-      four-alone o _ (monitor.is_green ((display s).overlap o)) from (λ small. shows.overlap_greens o from small) (shows.few_overlap_greens o);
+      few-alone is_wide o _ (monitor.is_green ((display s).overlap o)) from within (λ small. shows.overlap_greens o from small) (shows.few_overlap_greens o);
   overlap_yellows = λ o from within.
-      four-alone o _ (colours.is_yellow ((display s).overlap o)) from (λ small. shows.overlap_yellows o from small) (shows.few_overlap_yellows o);
+      few-alone is_wide o _ (colours.is_yellow ((display s).overlap o)) from within (λ small. shows.overlap_yellows o from small) (shows.few_overlap_yellows o);
   preempt = shows.preempt;
-  known = preempt-known s good;
+  known = preempt-known s served;
   preempts = refl;
-  flash = flash-seen s (preempt_in_service s) shows few (some-enabled s.plan good.plan.rules);
+  flash = flash-seen is_wide s (preempt_in_service s) shows few (some-enabled s.plan good.plan.rules);
 }
   where
-    shows : Shows (display s) (preempt_in_service s) (signals s)
-    shows = line-shows s.now (display s) (preempt_in_service s) (local s) (preempt-known s good)
+    shows : Shows is_wide (display s) (preempt_in_service s) (signals is_wide s)
+    shows = line-shows is_wide s.now (display s) (preempt_in_service s) (local s) (preempt-known s served)
 
     walking : (p : ℕ) → is_dont_walk (pedestrian_part s p) ≡ false → is_enabled s.plan p ≡ true
     walking p h = elim (cases_Bool (is_green (interval s p))) [

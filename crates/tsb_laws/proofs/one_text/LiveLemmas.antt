@@ -22,7 +22,7 @@ use Rattle.tsb_step.specs.tsb_machine.declared.commands.Answer.TheVariants as an
 use Rattle.tsb_step.specs.tsb_machine.declared.commands.MachineCommand.TheVariants.{Apply}
 use Rattle.tsb_step.specs.tsb_types.declared.refusal.Refusal.{Refusal}
 use Rattle.tsb_step.specs.tsb_types.declared.refusal.Refusal.TheVariants.{Memory}
-use Rattle.tsb_text.specs.Answers.{GoesUnless, Leads, Setup, display_line, follower, follower_of, next_tick, refused_after, refused_line, told}
+use Rattle.tsb_text.specs.Answers.{GoesUnless, Leads, Setup, line_in, follower, follower_of, next_tick, refused_after, refused_line, told}
 use Rattle.tsb_text.specs.Obeys as session
 use Rattle.tsb_text.specs.Obeys.{AsksOnce, Besides, TakesTicks, before_line, news, news_of, or_refusal, refusal_in, trail, trail_of}
 use Rattle.tsb_text.specs.Tasks.{task_of}
@@ -43,7 +43,7 @@ Same text other why whys new left = ((text ≡ other) × (why ≡ whys) × (new 
 once-text : Setup → Besides → List Input → Cmd → Answer → Option Refusal → List ℕ
 once-text given b is cmd a stop =
     (before_line b.echo a (news_of b.tells given is cmd) ++ trail_of b.tells given is cmd a stop)
-    ++ (with_feed (told cmd a (replay given.plan (remaining_after given.plan is cmd a))) ++ refused_after b.echo stop)
+    ++ (with_feed (told given.is_wide cmd a (replay given.plan (remaining_after given.plan is cmd a))) ++ refused_after b.echo stop)
 
 -- what follows the same answer
 once-led : (given : Setup) (b : Besides) (is : List Input) (cmd : Cmd) (text other : List ℕ) (why whys : Option Refusal) (new left : List Input)
@@ -112,7 +112,7 @@ more-same before rest more text other why whys new left a b (inr m) = inr m
 tick-said : Setup → Besides → List Input → Option Refusal → List ℕ → List ℕ
 tick-said given b is stop rest =
     (news b.tells given is (next_tick given is) ++ trail b.tells given (next_tick given is ∷ is) (follower given is (next_tick given is)) stop)
-    ++ (with_feed (display_line (replay given.plan (next_tick given is ∷ is))) ++ (refused_after b.echo stop ++ rest))
+    ++ (with_feed (line_in given.is_wide (replay given.plan (next_tick given is ∷ is))) ++ (refused_after b.echo stop ++ rest))
 
 -- two answers to so many ticks are the same, where these inputs remain
 abbrev TicksSame : Setup → Besides → ℕ → List Input → Type 0
@@ -168,7 +168,7 @@ task-same given b is (tasks.Ask cmd) text other why whys new left x y = once-sam
 
 -- the text of a tick whose changes alone are printed
 change-said : Setup → Besides → Row → List Input → List ℕ → Option Refusal → List ℕ
-change-said given b row is before stop = tick_text given.plan b row is before (trail b.tells given (inputs.Tick row ∷ is) (follower given is (inputs.Tick row)) stop)
+change-said given b row is before stop = tick_text given.is_wide given.plan b row is before (trail b.tells given (inputs.Tick row ∷ is) (follower given is (inputs.Tick row)) stop)
 
 abbrev ChangesSame : Setup → Besides → Row → ℕ → List Input → List ℕ → Bool → Type 0
 ChangesSame given b row n is before is_owed = (text other : List ℕ) (why whys : Option Refusal) (new left : List Input)
@@ -205,8 +205,8 @@ changed-same given b row n is before line is_owed text other told tolds rest mor
 changes-same : (given : Setup) (b : Besides) (row : Row) (n : ℕ) (is : List Input) (before : List ℕ) (is_owed : Bool) → ChangesSame given b row n is before is_owed
 changes-same given b row zero is before is_owed text other why whys new left x y = inl (x.0 ∙ sym y.0, x.1 ∙ sym y.1, x.2 ∙ sym y.2)
 changes-same given b row (suc n) is before is_owed text other why whys new left (inl x) (inl y) =
-    changed-same given b row n is before (line_after given.plan (inputs.Tick row ∷ is)) (shows_same (line_after given.plan (inputs.Tick row ∷ is)) before) text other x.1 y.1 x.2 y.2 x.3 y.3 x.4 y.4 why whys new left
-    (λ now. changes-same given b row n now (line_after given.plan (inputs.Tick row ∷ is)) (shows_same (line_after given.plan (inputs.Tick row ∷ is)) before)) x.5 y.5 x.6 y.6 x.7 y.7
+    changed-same given b row n is before (line_after given.is_wide given.plan (inputs.Tick row ∷ is)) (shows_same (line_after given.is_wide given.plan (inputs.Tick row ∷ is)) before) text other x.1 y.1 x.2 y.2 x.3 y.3 x.4 y.4 why whys new left
+    (λ now. changes-same given b row n now (line_after given.is_wide given.plan (inputs.Tick row ∷ is)) (shows_same (line_after given.is_wide given.plan (inputs.Tick row ∷ is)) before)) x.5 y.5 x.6 y.6 x.7 y.7
 changes-same given b row (suc n) is before is_owed text other why whys new left (inl x) (inr y) = inr (inr (y.refused ∙ ap Some (took-apart given.plan is (Apply (inputs.Tick row)) y.why x.0 y.right)))
 changes-same given b row (suc n) is before is_owed text other why whys new left (inr x) (inl y) = inr (inl (x.refused ∙ ap Some (took-apart given.plan is (Apply (inputs.Tick row)) x.why y.0 x.right)))
 changes-same given b row (suc n) is before is_owed text other why whys new left (inr x) (inr y) =
@@ -250,8 +250,8 @@ tick-one s t u line (Err why) text other fault faults a b = inl (a.0 ∙ sym b.0
 asks-one : (s t u : Live) (line : List ℕ) (c : LiveCommand) (text other : List ℕ) (fault faults : Option LineFault) → AsksLive s line c text fault t → AsksLive s line c other faults u → One text other fault faults t u
 asks-one s t u line (live.Session c) text other fault faults a b = obeys-one s t u line (task_of c) text other fault faults a b
 asks-one s t u line (live.Changes n) text other fault faults a b =
-    leaves-one s t u (Changes (setup s) (besides s line) s.row s.inputs (display_line (present s)) false n) text other fault faults
-    (λ why whys new left x y. changes-same (setup s) (besides s line) s.row n s.inputs (display_line (present s)) false text other why whys new left x y) a b
+    leaves-one s t u (Changes (setup s) (besides s line) s.row s.inputs (line_in s.is_wide (present s)) false n) text other fault faults
+    (λ why whys new left x y. changes-same (setup s) (besides s line) s.row n s.inputs (line_in s.is_wide (present s)) false text other why whys new left x y) a b
 asks-one s t u line live.Plan text other fault faults (inl a) (inl b) = inl (a.0 ∙ sym b.0, a.1 ∙ sym b.1, a.2 ∙ sym b.2)
 asks-one s t u line live.Plan text other fault faults (inl a) (inr b) = inr (inr b.1)
 asks-one s t u line live.Plan text other fault faults (inr a) b = inr (inl a.1)
@@ -260,6 +260,7 @@ asks-one s t u line (live.TickAt aim) text other fault faults a b = tick-one s t
 asks-one s t u line live.Status text other fault faults a b = inl (a.0 ∙ sym b.0, a.1 ∙ sym b.1, a.2 ∙ sym b.2)
 asks-one s t u line live.Edits text other fault faults a b = inl (a.0 ∙ sym b.0, a.1 ∙ sym b.1, a.2 ∙ sym b.2)
 asks-one s t u line (live.Events on) text other fault faults a b = inl (a.0 ∙ sym b.0, a.1 ∙ sym b.1, a.2 ∙ sym b.2)
+asks-one s t u line (live.Lines is_wide) text other fault faults a b = inl (a.0 ∙ sym b.0, a.1 ∙ sym b.1, a.2 ∙ sym b.2)
 asks-one s t u line (live.Echo on) text other fault faults a b = inl (a.0 ∙ sym b.0, a.1 ∙ sym b.1, a.2 ∙ sym b.2)
 asks-one s t u line (live.When which) text other fault faults a b = inl (a.0 ∙ sym b.0, a.1 ∙ sym b.1, a.2 ∙ sym b.2)
 asks-one s t u line live.Save text other fault faults a b = inl (a.0 ∙ sym b.0, a.1 ∙ sym b.1, a.2 ∙ sym b.2)

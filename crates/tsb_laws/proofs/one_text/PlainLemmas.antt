@@ -1,5 +1,5 @@
 -- No other answer reads like that of want of memory, and each is one line. So there is a text without that line.
-use Rattle.std.proofs.Common.{◌≡◌, ◌≢◌, ℕ, ◌<◌, ◌≤◌, ◌+◌, ◌==◌, Bool, false, List, [], ◌∷◌, ◌++◌, map, codes, bytes_eq, Option, Some, None, refl, ap, ◌∙◌, arith, append_assoc}
+use Rattle.std.proofs.Common.{◌≡◌, ◌≢◌, ℕ, ◌<◌, ◌≤◌, ◌+◌, ◌==◌, Bool, true, false, List, [], ◌∷◌, ◌++◌, map, codes, bytes_eq, Option, Some, None, refl, ap, ◌∙◌, arith, append_assoc}
 use Rattle.std.specs.List.{list_any}
 use Rattle.std.proofs.lemmas.Bool.Decides.{nat_tests}
 use Rattle.tsb_step.specs.tsb_history.declared.kinds.Kind.{Kind}
@@ -21,10 +21,10 @@ use Rattle.tsb_step.specs.Signs.{display, local}
 use Rattle.tsb_step.specs.State.{State}
 use Rattle.tsb_step.specs.tsb_machine.declared.commands.MachineCommand.TheVariants.{Apply}
 use Rattle.tsb_text.specs.tsb_lines.Digits.{digit}
-use Rattle.tsb_text.specs.tsb_display_text.Line.{letter, pedestrian_letter, tick_field, local_field, preempt_digit, line_of}
+use Rattle.tsb_text.specs.tsb_display_text.Line.{letter, pedestrian_letter, tick_field, local_field, preempt_digit, line_of, wide_line_of}
 use Rattle.tsb_text.specs.tsb_lines.Lines.{split}
 use Rattle.tsb_step.proofs.EditLemmas.{or_false}
-use Rattle.tsb_text.specs.Answers.{preempt_in_service, display_line, refused_line, busy_line, undone_line, verified_line, taken_line, when_line}
+use Rattle.tsb_text.specs.Answers.{preempt_in_service, line_in, refused_line, busy_line, undone_line, verified_line, taken_line, when_line}
 use Rattle.tsb_text.specs.Written.{with_feed}
 use Rattle.tsb_laws.specs.OneText.{memory_line, tells_memory}
 
@@ -128,8 +128,22 @@ line-other : (now : ℕ) (heads : Heads) (preempt l : Option ℕ) → bytes_eq m
 unfolding line_of
 line-other now heads preempt l = rw (digit-first now 1000000) refl
 
-pub display-plain : (s : State) → IsPlain (display_line s)
-display-plain s = record {
+wide-plain : (now : ℕ) (heads : Heads) (preempt l : Option ℕ) → IsFeedless (wide_line_of now heads preempt l)
+unfolding wide_line_of
+wide-plain now heads preempt l =
+    both (line_of now heads preempt l) _ (line-plain now heads preempt l).none
+    (more 32 _ refl (record { none = each (λ o. letter (heads.overlap o)) (run_from 1 16) (λ o. letter-plain (heads.overlap o)) }))
+
+wide-other : (now : ℕ) (heads : Heads) (preempt l : Option ℕ) → bytes_eq memory_line (wide_line_of now heads preempt l) ≡ false
+unfolding line_of wide_line_of
+wide-other now heads preempt l = rw (digit-first now 1000000) refl
+
+pub display-plain : (is_wide : Bool) (s : State) → IsPlain (line_in is_wide s)
+display-plain true s = record {
+  one = (wide-plain s.now (display s) (preempt_in_service s) (local s)).none;
+  other = wide-other s.now (display s) (preempt_in_service s) (local s);
+}
+display-plain false s = record {
   one = (line-plain s.now (display s) (preempt_in_service s) (local s)).none;
   other = line-other s.now (display s) (preempt_in_service s) (local s);
 }
@@ -172,7 +186,7 @@ verified-plain : (found : Option Rule) → IsPlain (verified_line found)
 verified-plain None = written (codes "ok") refl refl
 verified-plain (Some r) = rule-plain r
 
-ok-plain : IsPlain (codes "ok")
+pub ok-plain : IsPlain (codes "ok")
 ok-plain = written (codes "ok") refl refl
 
 pub taken-plain : (i : Input) (s : State) → IsPlain (taken_line (Apply i) s)

@@ -18,7 +18,7 @@ use Rattle.tsb_laws.specs.SavedRuns.{AnswersAll, saved_setup}
 
 -- a session on a log, in which the schedule does not act
 abbrev quiet_on : Plan → List LogRow → Setup
-quiet_on plan log = record { plan = plan; log = log; acts = false }
+quiet_on plan log = record { plan = plan; log = log; acts = false; is_wide = false }
 
 -- ticks that are taken are answered by their display lines
 ticks-answered : (plan : Plan) (log : List LogRow) (n : ℕ) (is left : List Input) → TakesTicks plan log n is left → (text : List ℕ) × Steps (quiet_on plan log) is n text left
@@ -33,7 +33,7 @@ ticks-answered plan log (suc n) is left t =
 -- an input that is taken
 input-answered : (plan : Plan) (log : List LogRow) (i : Input) (is left : List Input) → TakesInput plan i is left → (text : List ℕ) × Asked (quiet_on plan log) is (Apply i) text left
 input-answered plan log i is left t =
-    (with_feed (told (Apply i) Took (replay plan (i ∷ is))) ++ [], record { answer = Took; right = t.0; stop = None; left = (refl, t.1); line = refl })
+    (with_feed (told false (Apply i) Took (replay plan (i ∷ is))) ++ [], record { answer = Took; right = t.0; stop = None; left = (refl, t.1); line = refl })
 
 command-answered : (plan : Plan) (log : List LogRow) (c : Command) (is left : List Input) → Takes plan log c is left → (text : List ℕ) × Answers (quiet_on plan log) is c text left
 command-answered plan log (Step n) is left t = ticks-answered plan log n is left t

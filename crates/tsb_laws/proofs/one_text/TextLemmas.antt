@@ -12,11 +12,12 @@ use Rattle.tsb_step.specs.Runs.{replay}
 use Rattle.tsb_text.specs.tsb_command_text.declared.command.Command.{Command}
 use Rattle.tsb_text.specs.tsb_command_text.declared.command.Command.TheVariants.{Step, Show, Quit}
 use Rattle.tsb_text.specs.tsb_command_text.declared.command.Reading.{Reading}
-use Rattle.tsb_text.specs.tsb_command_text.declared.command.Reading.TheVariants.{Skip, Bad, Do}
+use Rattle.tsb_text.specs.tsb_command_text.declared.command.Reading.TheVariants.{Skip, Bad, Lines, Do}
 use Rattle.tsb_text.specs.tsb_command_text.Readings.{reading}
 use Rattle.tsb_text.specs.tsb_lines.Lines.{lines_of}
-use Rattle.tsb_text.specs.Answers.{Setup, Leads, GoesUnless, Asked, Ticked, Stopped, Steps, Answers, follower, follower_of, told, next_tick, refused_after, refused_line, display_line}
+use Rattle.tsb_text.specs.Answers.{Setup, Leads, GoesUnless, Asked, Ticked, Stopped, Steps, Answers, follower, follower_of, told, next_tick, refused_after, refused_line, line_in}
 use Rattle.tsb_text.specs.Ended.{EndsLine, EndedSo}
+use Rattle.tsb_text.specs.Replies.{laid}
 use Rattle.tsb_text.specs.Text.{GoesOn, Says, IsAnswered, IsText}
 use Rattle.tsb_text.specs.Written.{with_feed}
 use Rattle.tsb_laws.specs.OneText.{memory_line, tells_memory, PartsAtMemory, AreEqualButForMemory, Session}
@@ -38,7 +39,7 @@ AreAnswersAlike text other left others = AreSame text other left others ⊎ (Par
 
 -- a command that asks the bench once
 asked-text : Setup → List Input → Cmd → Answer → Option Refusal → List ℕ
-asked-text given is cmd a stop = with_feed (told cmd a (replay given.plan (remaining_after given.plan is cmd a))) ++ refused_after [] stop
+asked-text given is cmd a stop = with_feed (told given.is_wide cmd a (replay given.plan (remaining_after given.plan is cmd a))) ++ refused_after [] stop
 
 asked-memory : (given : Setup) (is : List Input) (cmd : Cmd) (text other : List ℕ) (left : List Input) (x : Asked given is cmd text left) →
     x.answer ≡ Refused Memory → PartsAtMemory text other
@@ -57,9 +58,9 @@ asked-same : (given : Setup) (is : List Input) (cmd : Cmd) (text other : List �
     x.answer ≡ y.answer → AreAnswersAlike text other left others
 unfolding AreAnswersAlike asked-text
 asked-same given is cmd text other left others x y same =
-    let line : List ℕ = with_feed (told cmd y.answer (replay given.plan (remaining_after given.plan is cmd y.answer))) in
+    let line : List ℕ = with_feed (told given.is_wide cmd y.answer (replay given.plan (remaining_after given.plan is cmd y.answer))) in
     let one : text ≡ line ++ refused_after [] x.stop = x.line ∙ ap (λ (a : Answer). asked-text given is cmd a x.stop) same in
-    let ended : EndsLine line = ends-feed (told cmd y.answer (replay given.plan (remaining_after given.plan is cmd y.answer))) in
+    let ended : EndsLine line = ends-feed (told given.is_wide cmd y.answer (replay given.plan (remaining_after given.plan is cmd y.answer))) in
     elim (asked-led given is cmd text other left others x y same) [
       | inl led ↦ inl (record {
         texts = one ∙ ap (λ (stop : Option Refusal). line ++ refused_after [] stop) led.0 ∙ sym y.line;
@@ -147,17 +148,17 @@ ticked-same : (given : Setup) (n : ℕ) (is : List Input) (text other rest more 
     → StepsAlike given n mid → Ticked given is text rest stop mid → Ticked given is other more stop mid
     → GoesOnFrom given n stop mid rest left → GoesOnFrom given n stop mid more others → AreAnswersAlike text other left others
 ticked-same given n is text other rest more stop mid left others on x y goes go =
-    let line : List ℕ = with_feed (display_line (replay given.plan (next_tick given is ∷ is))) in
+    let line : List ℕ = with_feed (line_in given.is_wide (replay given.plan (next_tick given is ∷ is))) in
     alike-texts (line ++ (refused_after [] stop ++ rest)) (line ++ (refused_after [] stop ++ more)) text other left others x.line y.line
-    (alike-behind line (refused_after [] stop ++ rest) (refused_after [] stop ++ more) left others (ends-feed (display_line (replay given.plan (next_tick given is ∷ is))))
+    (alike-behind line (refused_after [] stop ++ rest) (refused_after [] stop ++ more) left others (ends-feed (line_in given.is_wide (replay given.plan (next_tick given is ∷ is))))
     (goes-on given n stop mid on rest more left others goes go))
 
 -- one of them ran out of memory for what follows
 ticked-memory : (given : Setup) (is : List Input) (text other rest more : List ℕ) (stop stops : Option Refusal) (mid mids : List Input)
     → Ticked given is text rest stop mid → Ticked given is other more stops mids → stop ≡ Some Memory → PartsAtMemory text other
 ticked-memory given is text other rest more stop stops mid mids x y memory =
-    let line : List ℕ = with_feed (display_line (replay given.plan (next_tick given is ∷ is))) in
-    parts-next line text other rest (refused_after [] stops ++ more) (ends-feed (display_line (replay given.plan (next_tick given is ∷ is))))
+    let line : List ℕ = with_feed (line_in given.is_wide (replay given.plan (next_tick given is ∷ is))) in
+    parts-next line text other rest (refused_after [] stops ++ more) (ends-feed (line_in given.is_wide (replay given.plan (next_tick given is ∷ is))))
     (x.line ∙ ap (λ (e : Option Refusal). line ++ (refused_after [] e ++ rest)) memory) y.line
 
 ticked-ticked : (given : Setup) (n : ℕ) (is : List Input) (text other rest more : List ℕ) (stop stops : Option Refusal) (mid mids left others : List Input)
@@ -196,7 +197,7 @@ unfolding AreAnswersAlike
 shown-alike given is text other left others x y = inl (record {
   texts = x.0 ∙ sym y.0;
   inputs = x.1 ∙ sym y.1;
-  ended = subst EndsLine (sym x.0) (ends-feed (display_line (replay given.plan is)));
+  ended = subst EndsLine (sym x.0) (ends-feed (line_in given.is_wide (replay given.plan is)));
 })
 
 quit-alike : (given : Setup) (is : List Input) (text other : List ℕ) (left others : List Input) → Answers given is Quit text left → Answers given is Quit other others → AreAnswersAlike text other left others
@@ -227,20 +228,23 @@ more-equal : (c : Command) (Rest : List ℕ → Type 0) (text other : List ℕ) 
 more-equal Quit Rest text other on x y = inl (x ∙ sym y)
 more-equal c Rest text other on x y = on text other x y
 
-says-equal : (given : Setup) (r : Reading) (is : List Input) (Rest : List Input → List ℕ → Type 0) (text other : List ℕ) →
-    ((new : List Input) (v w : List ℕ) → Rest new v → Rest new w → AreEqualButForMemory v w) → Says given r is text Rest → Says given r is other Rest → AreEqualButForMemory text other
-says-equal given Skip is Rest text other on x y = on is text other x y
+says-equal : (given : Setup) (r : Reading) (is : List Input) (Rest : Setup → List Input → List ℕ → Type 0) (text other : List ℕ) →
+    ((now : Setup) (new : List Input) (v w : List ℕ) → Rest now new v → Rest now new w → AreEqualButForMemory v w) → Says given r is text Rest → Says given r is other Rest → AreEqualButForMemory text other
+says-equal given Skip is Rest text other on x y = on given is text other x y
 says-equal given Bad is Rest text other on x y =
     subst₂ AreEqualButForMemory (sym x.1) (sym y.1)
-    (equal-behind (with_feed (codes "bad command")) x.0 y.0 (ends-feed (codes "bad command")) (on is x.0 y.0 x.2 y.2))
+    (equal-behind (with_feed (codes "bad command")) x.0 y.0 (ends-feed (codes "bad command")) (on given is x.0 y.0 x.2 y.2))
+says-equal given (Lines is_wide) is Rest text other on x y =
+    subst₂ AreEqualButForMemory (sym x.1) (sym y.1)
+    (equal-behind (with_feed (codes "ok")) x.0 y.0 (ends-feed (codes "ok")) (on (laid is_wide given) is x.0 y.0 x.2 y.2))
 says-equal given (Do c) is Rest text other on x y =
     subst₂ AreEqualButForMemory (sym x.4) (sym y.4)
-    (texts-behind (λ new text. GoesOn c (Rest new) text) x.0 y.0 x.1 y.1 x.2 y.2 (λ new v w. more-equal c (Rest new) v w (on new)) x.5 y.5 (answered-alike given is c x.0 y.0 x.2 y.2 x.3 y.3))
+    (texts-behind (λ new text. GoesOn c (Rest given new) text) x.0 y.0 x.1 y.1 x.2 y.2 (λ new v w. more-equal c (Rest given new) v w (on given new)) x.5 y.5 (answered-alike given is c x.0 y.0 x.2 y.2 x.3 y.3))
 
 lines-equal : (given : Setup) (ls : List (List ℕ)) (is : List Input) (text other : List ℕ) → IsAnswered given is ls text → IsAnswered given is ls other → AreEqualButForMemory text other
 lines-equal given [] is text other x y = inl (x ∙ sym y)
 lines-equal given (l ∷ ls) is text other x y =
-    says-equal given (reading l) is (λ new rest. IsAnswered given new ls rest) text other (λ new v w. lines-equal given ls new v w) x y
+    says-equal given (reading l) is (λ now new rest. IsAnswered now new ls rest) text other (λ now new v w. lines-equal now ls new v w) x y
 
 -- ## Texts
 

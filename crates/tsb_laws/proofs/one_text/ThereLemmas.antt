@@ -14,16 +14,17 @@ use Rattle.tsb_step.specs.Watches.{TellsLastChange}
 use Rattle.tsb_text.specs.tsb_command_text.declared.command.Command.{Command}
 use Rattle.tsb_text.specs.tsb_command_text.declared.command.Command.TheVariants.{Step, Back, Seek, Undo, Show, When, Quit}
 use Rattle.tsb_text.specs.tsb_command_text.declared.command.Reading.{Reading}
-use Rattle.tsb_text.specs.tsb_command_text.declared.command.Reading.TheVariants.{Skip, Bad, Do}
+use Rattle.tsb_text.specs.tsb_command_text.declared.command.Reading.TheVariants.{Skip, Bad, Lines, Do}
 use Rattle.tsb_text.specs.tsb_command_text.Readings.{reading}
 use Rattle.tsb_text.specs.tsb_lines.Lines.{lines_of}
-use Rattle.tsb_text.specs.Answers.{Setup, Leads, GoesUnless, Asked, Steps, Answers, follower, follower_of, told, next_tick, refused_after, refused_line, display_line}
+use Rattle.tsb_text.specs.Answers.{Setup, Leads, GoesUnless, Asked, Steps, Answers, follower, follower_of, told, next_tick, refused_after, refused_line, line_in}
+use Rattle.tsb_text.specs.Replies.{laid}
 use Rattle.tsb_text.specs.Text.{GoesOn, Says, IsAnswered}
 use Rattle.tsb_text.specs.Written.{with_feed}
 use Rattle.tsb_step.proofs.RefusalLemmas.{never-memory, refuses}
 use Rattle.tsb_text.proofs.WatchLemmas.{some-change}
 use Rattle.tsb_laws.specs.OneText.{tells_memory, Untold}
-use Rattle.tsb_laws.proofs.one_text.PlainLemmas.{IsPlain, plain-before, display-plain, taken-plain, refused-plain, undone-plain, when-plain, nothing-plain, bad-plain}
+use Rattle.tsb_laws.proofs.one_text.PlainLemmas.{IsPlain, plain-before, display-plain, taken-plain, refused-plain, undone-plain, when-plain, nothing-plain, bad-plain, ok-plain}
 
 -- an answer that adds nothing to what a text says of memory
 record Plain (IsAnswer : List ℕ → List Input → Type 0) : Type 0 where
@@ -83,10 +84,10 @@ led given is (Some i) = elim (right-input given is i) [
 -- ## What asks the bench once
 
 asked : (given : Setup) (is : List Input) (cmd : Cmd) (a : Answer) → IsRight given.plan is cmd a →
-    IsPlain (told cmd a (replay given.plan (remaining_after given.plan is cmd a))) → PlainAsked given is cmd
+    IsPlain (told given.is_wide cmd a (replay given.plan (remaining_after given.plan is cmd a))) → PlainAsked given is cmd
 asked given is cmd a right plain =
     let next : IsLed given (remaining_after given.plan is cmd a) (follower_of given is cmd a) = led given (remaining_after given.plan is cmd a) (follower_of given is cmd a) in
-    let line : List ℕ = told cmd a (replay given.plan (remaining_after given.plan is cmd a)) in
+    let line : List ℕ = told given.is_wide cmd a (replay given.plan (remaining_after given.plan is cmd a)) in
     record {
       text = with_feed line ++ refused_after [] next.stop;
       left = next.left;
@@ -112,14 +113,14 @@ back-told given is n = at (nat_lt (replay given.plan is).now n) refl
   where
     at : (b : Bool) → nat_lt (replay given.plan is).now n ≡ b → PlainAsked given is (asks.Back n)
     at true e = asked given is (asks.Back n) Nothing (search (rules, e)) nothing-plain
-    at false e = asked given is (asks.Back n) Moved (search (rules, e)) (display-plain (replay given.plan (remaining_after given.plan is (asks.Back n) Moved)))
+    at false e = asked given is (asks.Back n) Moved (search (rules, e)) (display-plain given.is_wide (replay given.plan (remaining_after given.plan is (asks.Back n) Moved)))
 
 seek-told : (given : Setup) (is : List Input) (t : ℕ) → PlainAsked given is (asks.Seek t)
 seek-told given is t = at (nat_lt (replay given.plan is).now t) refl
   where
     at : (b : Bool) → nat_lt (replay given.plan is).now t ≡ b → PlainAsked given is (asks.Seek t)
     at true e = asked given is (asks.Seek t) Nothing (search (rules, e)) nothing-plain
-    at false e = asked given is (asks.Seek t) Moved (search (rules, e)) (display-plain (replay given.plan (remaining_after given.plan is (asks.Seek t) Moved)))
+    at false e = asked given is (asks.Seek t) Moved (search (rules, e)) (display-plain given.is_wide (replay given.plan (remaining_after given.plan is (asks.Seek t) Moved)))
 
 when-told : (given : Setup) (is : List Input) (watch : Watch) → PlainAsked given is (asks.When watch)
 when-told given is watch =
@@ -146,14 +147,14 @@ tick-told : (given : Setup) (is : List Input) (n : ℕ) → IsRight given.plan i
 tick-told given is n took on =
     let next : IsLed given (next_tick given is ∷ is) (follower given is (next_tick given is)) = led given (next_tick given is ∷ is) (follower given is (next_tick given is)) in
     let later : Plain (λ text new. GoesUnless next.stop (Steps given next.left n text new) ((text ≡ []) × (new ≡ next.left))) = goes-told given n next.stop next.left (on next.left) in
-    let line : List ℕ = display_line (replay given.plan (next_tick given is ∷ is)) in
+    let line : List ℕ = line_in given.is_wide (replay given.plan (next_tick given is ∷ is)) in
     record {
       text = with_feed line ++ (refused_after [] next.stop ++ later.text);
       left = later.left;
       answers = inl (later.text, next.stop, next.left, record { right = took; leads = next.leads; line = refl }, later.answers);
       tells = λ rest.
           ap tells_memory (append_assoc (with_feed line) (refused_after [] next.stop ++ later.text) rest)
-          ∙ plain-before line ((refused_after [] next.stop ++ later.text) ++ rest) (display-plain (replay given.plan (next_tick given is ∷ is)))
+          ∙ plain-before line ((refused_after [] next.stop ++ later.text) ++ rest) (display-plain given.is_wide (replay given.plan (next_tick given is ∷ is)))
           ∙ ap tells_memory (append_assoc (refused_after [] next.stop) later.text rest)
           ∙ next.tells (later.text ++ rest)
           ∙ later.tells rest;
@@ -174,10 +175,10 @@ command-told given is (Back n) = back-told given is n
 command-told given is (Seek t) = seek-told given is t
 command-told given is Undo = undo-told given is
 command-told given is Show = record {
-  text = with_feed (display_line (replay given.plan is));
+  text = with_feed (line_in given.is_wide (replay given.plan is));
   left = is;
   answers = (refl, refl);
-  tells = λ rest. plain-before (display_line (replay given.plan is)) rest (display-plain (replay given.plan is));
+  tells = λ rest. plain-before (line_in given.is_wide (replay given.plan is)) rest (display-plain given.is_wide (replay given.plan is));
 }
 command-told given is Quit = record { text = []; left = is; answers = (refl, refl); tells = λ rest. refl }
 command-told given is (When w) = when-told given is w
@@ -194,10 +195,17 @@ more-told : (c : Command) (Rest : List ℕ → Type 0) → Told Rest → Told (G
 more-told Quit Rest later = record { text = []; so = refl; tells = refl }
 more-told c Rest later = later
 
-says-told : (given : Setup) (r : Reading) (is : List Input) (Rest : List Input → List ℕ → Type 0) → ((new : List Input) → Told (Rest new)) → Told (λ text. Says given r is text Rest)
-says-told given Skip is Rest later = let next : Told (Rest is) = later is in record { text = next.text; so = next.so; tells = next.tells }
+says-told : (given : Setup) (r : Reading) (is : List Input) (Rest : Setup → List Input → List ℕ → Type 0) → ((now : Setup) (new : List Input) → Told (Rest now new)) → Told (λ text. Says given r is text Rest)
+says-told given Skip is Rest later = let next : Told (Rest given is) = later given is in record { text = next.text; so = next.so; tells = next.tells }
+says-told given (Lines is_wide) is Rest later =
+    let next : Told (Rest (laid is_wide given) is) = later (laid is_wide given) is in
+    record {
+      text = with_feed (codes "ok") ++ next.text;
+      so = (next.text, refl, next.so);
+      tells = plain-before (codes "ok") next.text ok-plain ∙ next.tells;
+    }
 says-told given Bad is Rest later =
-    let next : Told (Rest is) = later is in
+    let next : Told (Rest given is) = later given is in
     record {
       text = with_feed (codes "bad command") ++ next.text;
       so = (next.text, refl, next.so);
@@ -205,14 +213,14 @@ says-told given Bad is Rest later =
     }
 says-told given (Do c) is Rest later =
     let a : PlainAnswers given is c = command-told given is c in
-    let next : Told (GoesOn c (Rest a.left)) = more-told c (Rest a.left) (later a.left) in
+    let next : Told (GoesOn c (Rest given a.left)) = more-told c (Rest given a.left) (later given a.left) in
     record { text = a.text ++ next.text; so = (a.text, next.text, a.left, a.answers, refl, next.so); tells = a.tells next.text ∙ next.tells }
 
 lines-told : (given : Setup) (ls : List (List ℕ)) (is : List Input) → Told (IsAnswered given is ls)
 lines-told given [] is = record { text = []; so = refl; tells = refl }
 lines-told given (l ∷ ls) is =
-    let all : Told (λ text. Says given (reading l) is text (λ new rest. IsAnswered given new ls rest)) =
-    says-told given (reading l) is (λ new rest. IsAnswered given new ls rest) (λ new. lines-told given ls new) in
+    let all : Told (λ text. Says given (reading l) is text (λ now new rest. IsAnswered now new ls rest)) =
+    says-told given (reading l) is (λ now new rest. IsAnswered now new ls rest) (λ now new. lines-told now ls new) in
     record { text = all.text; so = all.so; tells = all.tells }
 
 pub there-is : (given : Setup) (is : List Input) (bytes : List ℕ) → Untold given is bytes

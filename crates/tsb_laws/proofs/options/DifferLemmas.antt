@@ -6,7 +6,7 @@ use Rattle.tsb_step.specs.tsb_plan.declared.object.Object.{Object}
 use Rattle.tsb_step.specs.tsb_plan.declared.object.Object.TheVariants.{CoordCorrectionLimit, CoordCorrectionMode}
 use Rattle.tsb_step.specs.tsb_plan.declared.plan.patterns.CorrectionMode.TheVariants.{AtOnce}
 use Rattle.tsb_step.specs.tsb_plan.Parts.{correction_mode, correction_limit}
-use Rattle.tsb_step.specs.tsb_plan.Plan.{Plan, is_same, with_value, with_values}
+use Rattle.tsb_step.specs.tsb_plan.Plan.{Plan, Counts, is_same, with_value, with_values}
 use Rattle.tsb_step.specs.tsb_transact.declared.edit.Edit.{Edit}
 use Rattle.tsb_step.specs.tsb_transact.Commit.{changes, changes_some}
 use Rattle.tsb_laws.specs.Differing.{DifferIn, with_others}
@@ -30,6 +30,7 @@ with_limit plan v = with_options plan (only_limit plan v)
 pub as_others : (test : Object → Bool) (x y : Plan) → DifferIn test x y → y ≡ with_others test x y.value
 as_others test x y d =
     ap₂ (λ (n m : ℕ). record y { phase_count = n; side_count = m }) d.phase_count d.side_count
+    ∙ ap (λ (counts : Counts). record x { counts = counts; value = y.value }) d.counts
     ∙ ap (λ (f : Object → ℕ → ℕ). record x { value = f }) (fun_ext (λ o. fun_ext (λ i. at o i)))
   where
     at : (o : Object) (i : ℕ) → y.value o i ≡ (if test o then y.value o i else x.value o i)
@@ -43,6 +44,7 @@ pub from_others : (test : Object → Bool) (x : Plan) (v : Object → ℕ → �
 from_others test x v = record {
   phase_count = refl;
   side_count = refl;
+  counts = refl;
   value = λ o i h. ap (λ (b : Bool). if b then v o i else x.value o i) h;
 }
 
@@ -71,6 +73,7 @@ values_differ test [] x y d = d
 values_differ test (e ∷ es) x y d = values_differ test es (with_value x e.0 e.1 e.2) (with_value y e.0 e.1 e.2) (record {
   phase_count = d.phase_count;
   side_count = d.side_count;
+  counts = d.counts;
   value = λ o i h. ap (λ (n : ℕ). if is_same e.0 e.1 o i then e.2 else n) (d.value o i h);
 })
 

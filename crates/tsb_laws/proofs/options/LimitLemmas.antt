@@ -149,4 +149,4 @@ module _ (plan : Plan) (v : Object → ℕ → ℕ) where
 
   pub some_lasts-same : some_lasts (with_limit plan v) ≡ some_lasts plan
   unfolding some_lasts
-  some_lasts-same = fun_ext (λ s. ap (λ (f : Shown → ℕ → Bool). list_any (f s) (run_from 1 4)) lasts-same)
+  some_lasts-same = fun_ext (λ s. ap (λ (f : Shown → ℕ → Bool). list_any (f s) (run_from 1 plan.counts.overlaps)) lasts-same)

@@ -281,7 +281,7 @@ reads_told x y (inputs.Clock m ∷ is) same none = (reads_told x y is same none.
 reads_told x y (i ∷ is) same none = (reads_told x y is same none.0, tt)
 
 differ_in_offsets : (plan : Plan) (offsets : ℕ → ℕ) (number : ℕ) → DifferIn is_of_offsets plan (with_offsets plan offsets number)
-differ_in_offsets plan offsets number = record { phase_count = refl; side_count = refl; value = λ o i h. at o i h }
+differ_in_offsets plan offsets number = record { phase_count = refl; side_count = refl; counts = refl; value = λ o i h. at o i h }
   where
     at : (o : Object) (i : ℕ) → is_of_offsets o ≡ false → (with_offsets plan offsets number).value o i ≡ plan.value o i
     at PatternOffsetTime i h = cc

@@ -43,7 +43,7 @@ each_passes test passes (k ∷ ks) = ap₂ (λ (a b : Bool). a && b) (passes k) 
 
 -- without modifier phases K21 asks for nothing
 modifiers_pass : (plan : Plan) → HasEachAtZero plan → modifiers_are_right plan ≡ true
-modifiers_pass plan none = each_passes (modifies_rightly plan) at (run_from 1 4)
+modifiers_pass plan none = each_passes (modifies_rightly plan) at (run_from 1 plan.counts.overlaps)
   where
     at : (o : ℕ) → modifies_rightly plan o ≡ true
     at o =

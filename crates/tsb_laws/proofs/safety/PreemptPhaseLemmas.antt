@@ -96,7 +96,7 @@ named_one list n few fits some = record { one = trailing_zeros w16 list + 1; fro
     short = let most : 2 ^ n ≤ 2 ^ 16 = pow_mono few in let all : 2 ^ 16 ≡ 65536 = refl in omega (arith, fits, most, all)
 
     first : names list (trailing_zeros w16 list + 1) ≡ true
-    first = names-first list short some
+    first = names-first w16 list short some
 
     within : (b : Bool) → nat_le (trailing_zeros w16 list + 1) n ≡ b → trailing_zeros w16 list + 1 ≤ n
     within true h = leb-true (trailing_zeros w16 list + 1) n h

@@ -9,7 +9,7 @@ use Rattle.tsb_step.specs.declared.inputs.Input.TheVariants.{Pattern}
 use Rattle.tsb_step.specs.Play.{Cmd, IsRight, remaining_after}
 use Rattle.tsb_step.specs.Runs.{replay}
 use Rattle.tsb_dialog.specs.Said.{with_feed}
-use Rattle.tsb_text.specs.Answers.{GoesUnless, Leads, Setup, display_line, follower, follower_of, next_tick, refused_after, told}
+use Rattle.tsb_text.specs.Answers.{GoesUnless, Leads, Setup, line_in, follower, follower_of, next_tick, refused_after, told}
 use Rattle.tsb_text.specs.Obeys.{AsksOnce, TakesTicks, Ticked, before_line, news, news_of, nothing_besides, or_refusal, refusal_in, trail, trail_of}
 use Rattle.tsb_text.specs.declared.task.Task.{Task}
 use Rattle.tsb_text.specs.declared.task.Task.TheVariants.{Ask, Quit, Show, Ticks}
@@ -32,7 +32,7 @@ or-none (Some e) = refl
 asked-text : Setup → List Input → Cmd → Answer → List ℕ
 asked-text given is cmd a =
     (before_line [] a (news_of nothing_besides.tells (quiet given) is cmd) ++ trail_of nothing_besides.tells (quiet given) is cmd a None)
-    ++ (with_feed (told cmd a (replay given.plan (remaining_after given.plan is cmd a))) ++ refused_after [] None)
+    ++ (with_feed (told given.is_wide cmd a (replay given.plan (remaining_after given.plan is cmd a))) ++ refused_after [] None)
 
 quiet-asks : (given : Setup) (is : List Input) (cmd : Cmd) (a : Answer) → IsRight given.plan is cmd a → LeavesOf (quiet given) is (Ask cmd) (refusal_in a) (remaining_after given.plan is cmd a)
 unfolding asked-text
@@ -44,7 +44,7 @@ quiet-asks given is cmd a right = (
 tick-text : Setup → List Input → List ℕ
 tick-text given is =
     (news nothing_besides.tells (quiet given) is (next_tick given is) ++ trail nothing_besides.tells (quiet given) (next_tick given is ∷ is) None None)
-    ++ (with_feed (display_line (replay given.plan (next_tick given is ∷ is))) ++ (refused_after [] None ++ []))
+    ++ (with_feed (line_in given.is_wide (replay given.plan (next_tick given is ∷ is))) ++ (refused_after [] None ++ []))
 
 quiet-ticks : (given : Setup) (is : List Input) → IsRight given.plan is (Apply (next_tick given is)) Took → LeavesOf (quiet given) is (Ticks 1) None (next_tick given is ∷ is)
 unfolding tick-text

@@ -126,7 +126,7 @@ with_value-same plan o i v from =
     ap (λ (value : Object → ℕ → ℕ). made value) (fun_ext (λ p. fun_ext (λ k. put-same plan o i v p k from)))
   where
     made : (Object → ℕ → ℕ) → Plan
-    made value = record { phase_count = 16; side_count = 4; value = value }
+    made value = record { phase_count = 16; side_count = 4; counts = plan.counts; value = value }
 
 -- the wide plan with all edits
 pub with_edits-same : (plan : Plan) (es : List Edit) → AreOfTable es → with_edits (widened plan) (map widened_edit es) ≡ widened (with_edits plan es)
@@ -143,6 +143,7 @@ pub put-narrow : (plan : Plan) (o : Object) (i v : ℕ) → IsNarrow plan → ha
 put-narrow plan o i v narrow has low = record {
   phase_count = narrow.phase_count;
   side_count = narrow.side_count;
+  counts = narrow.counts;
   placed = placed;
   bounded = bounded;
 }

@@ -1,46 +1,68 @@
 -- A plan text of version 2 is, with another number, one of version 3; and no version gives what came after it.
-use Rattle.std.proofs.Common.{◌≡◌, ℕ, ◌≤◌, nat_lt, Bool, true, false, List, length, Some, Result, Ok, Err, codes, bytes_eq, if◌then◌else◌, Ordering, Less, Equal, Greater, nat_cmp, refl, sym, ◌∙◌, true≢false, ap, subst, arith}
+use Rattle.std.proofs.Common.{zero, suc, ◌≡◌, ℕ, ◌+◌, ◌≤◌, nat_lt, cond, find, Bool, true, false, List, length, Some, Result, Ok, Err, codes, bytes_eq, if◌then◌else◌, Ordering, Less, Equal, Greater, nat_cmp, refl, sym, ◌∙◌, true≢false, subst, arith}
 use Rattle.std.proofs.lemmas.Bool.{and_parts, le-ltb}
 use Rattle.std.proofs.lemmas.Map.Lookups.{exact_bytes}
 use Rattle.std.proofs.lemmas.Slice.Eq.{bytes_eq-Decides}
+use Rattle.std.specs.Fmt.{decimal}
 use Rattle.std.specs.Cmp.Lexicographic.{slice_cmp}
 use Rattle.std.specs.Ordering.{match_ordering}
 use Rattle.serde_json.specs.Data.{Data, Members, no_members, member, number, put, unsigned}
 use Rattle.serde_json.specs.Find.{as_object}
+use Rattle.tsb_step.specs.tsb_types.Lists.{run_from}
 use Rattle.tsb_step.specs.tsb_plan.declared.object.Object.{Object}
+use Rattle.tsb_step.specs.tsb_plan.declared.object.Object.TheVariants.{PedestrianDetectorCallPhase}
 use Rattle.tsb_step.specs.tsb_plan.declared.version.Version.{Version}
 use Rattle.tsb_step.specs.tsb_plan.declared.version.Version.TheVariants.{Two, Three}
 use Rattle.tsb_step.specs.tsb_plan.Names.{object_named}
 use Rattle.tsb_step.specs.tsb_plan.Objects.{objects}
 use Rattle.tsb_step.specs.tsb_plan.Plan.{Plan, empty}
-use Rattle.tsb_step.specs.tsb_plan.Versions.{has_object, has_index_in}
+use Rattle.tsb_step.specs.tsb_plan.Versions.{has_object, has_index_in, indices_in}
 use Rattle.tsb_step.proofs.tsb_plan.NameLemmas.{named_exact}
-use Rattle.tsb_plan_text.specs.PlanErrors.{Error, no_such_object, object_not_a_table, too_large}
-use Rattle.tsb_plan_text.specs.PlanText.{limit, data_plan, checked, reading, or_fault, then_on, with_entry, with_table, with_object, is_notes, with_notes, with_member, with_members}
+use Rattle.tsb_plan_text.specs.PlanErrors.{Error, no_such_object, no_such_index, object_not_a_table, too_large}
+use Rattle.tsb_plan_text.specs.PlanText.{limit, data_plan, checked, reading, or_fault, index_named, with_entry, with_table, with_object, is_notes, with_notes, with_member, with_members}
 use Rattle.tsb_plan_text.proofs.SaysLemmas.{or_ok, then_ok, if_ok}
 use Rattle.tsb_laws.specs.Texts.{IsOfVersion, renumbered}
 use Rattle.tsb_laws.proofs.versions.TextLemmas.{read-in}
 
 -- ## The same members
 
-entry-same : (o : Object) (text : List ℕ) (d : Data) (p : Plan) → with_entry Two o text d p ≡ with_entry Three o text d p
+-- what is found among fewer numbers is found among more
+found-longer : (test : ℕ → Bool) (a n m i : ℕ) → n ≤ m → find test (run_from a n) ≡ Some i → find test (run_from a m) ≡ Some i
+unfolding run_from
+found-longer test a zero m i few e = absurd cc
+found-longer test a (suc n) zero i few e = absurd (omega (arith, few))
+found-longer test a (suc n) (suc m) i few e = go (test a) (found-longer test (a + 1) n m i (omega (arith, few))) e
+  where
+    go : (b : Bool) → (find test (run_from (a + 1) n) ≡ Some i → find test (run_from (a + 1) m) ≡ Some i) →
+        cond b (Some a) (find test (run_from (a + 1) n)) ≡ Some i → cond b (Some a) (find test (run_from (a + 1) m)) ≡ Some i
+    go true later e = e
+    go false later e = later e
+
+index-later : (n m : ℕ) (text : List ℕ) (i : ℕ) → n ≤ m → index_named n text ≡ Some i → index_named m text ≡ Some i
+unfolding index_named
+index-later n m text i few e = found-longer (λ k. bytes_eq (decimal k) text) 1 n m i few e
+
+-- version 2 has fewer indices, or as many
+few-in-two : (o : Object) → indices_in Two o ≤ indices_in Three o
+few-in-two PedestrianDetectorCallPhase = omega arith
+few-in-two o = omega arith
+
+entry-later : (o : Object) (text : List ℕ) (d : Data) (p q : Plan) → with_entry Two o text d p ≡ Ok q → with_entry Three o text d p ≡ Ok q
 unfolding with_entry
-entry-same o text d p = refl
+entry-later o text d p q e =
+    let i = or_ok (index_named (indices_in Two o) text) (no_such_index o text) _ q e in
+    rw (index-later (indices_in Two o) (indices_in Three o) text i.0 (few-in-two o) i.1) i.2
 
-then-same : (next other : Plan → Result Plan Error) → ((q : Plan) → next q ≡ other q) → (r : Result Plan Error) → then_on r next ≡ then_on r other
-then-same next other same (Ok q) = same q
-then-same next other same (Err f) = refl
-
-table-same : (o : Object) (table : Members) (p : Plan) → with_table Two o table p ≡ with_table Three o table p
-table-same o no_members p = refl
-table-same o (member text d rest) p =
-    then-same (with_table Two o rest) (with_table Three o rest) (λ q. table-same o rest q) (with_entry Two o text d p)
-    ∙ ap (λ (r : Result Plan Error). then_on r (with_table Three o rest)) (entry-same o text d p)
+table-later : (o : Object) (table : Members) (p q : Plan) → with_table Two o table p ≡ Ok q → with_table Three o table p ≡ Ok q
+table-later o no_members p q e = e
+table-later o (member text d rest) p q e =
+    let first = then_ok (with_entry Two o text d p) (with_table Two o rest) q e in
+    rw (entry-later o text d p first.0 first.1) (table-later o rest first.0 q first.2)
 
 member-by : (name : List ℕ) (d : Data) (p q : Plan) (o : Object) (table : Members) → object_named Three name ≡ Some o → as_object d ≡ Some table →
     with_table Two o table p ≡ Ok q →
     or_fault (object_named Three name) (no_such_object name) (λ o. or_fault (as_object d) (object_not_a_table o) (λ table. with_table Three o table p)) ≡ Ok q
-member-by name d p q o table found is made = rw (found, is) (sym (table-same o table p) ∙ made)
+member-by name d p q o table found is made = rw (found, is) (table-later o table p q made)
 
 -- a member that names an object
 object-later : (name : List ℕ) (d : Data) (p q : Plan) → with_object Two name d p ≡ Ok q → with_object Three name d p ≡ Ok q

@@ -6,10 +6,11 @@ use Rattle.std.proofs.lemmas.Bool.{cases_Bool, and_parts}
 use Rattle.std.proofs.lemmas.Bool.Decides.{nat_tests}
 use Rattle.tsb_step.specs.tsb_plan.declared.object.Object.{Object}
 use Rattle.tsb_step.specs.tsb_plan.declared.version.Version.TheVariants.{One}
-use Rattle.tsb_step.specs.tsb_plan.Plan.{Plan, empty, with_value, with_values}
+use Rattle.tsb_step.specs.tsb_plan.Plan.{Plan, all_counts, empty, with_value, with_values}
 use Rattle.tsb_step.specs.tsb_plan.Quad.{quad, quad_rows, quad_values, row, with_rows}
 use Rattle.tsb_step.specs.tsb_plan.Two.{two, two_values}
 use Rattle.tsb_step.specs.tsb_plan.Versions.{is_in_rows, has_index_in, greatest_in}
+use Rattle.tsb_laws.specs.Sizes.{full}
 use Rattle.tsb_laws.specs.Widened.{IsNarrow, is_of_version_1, widened_value, widened}
 use Rattle.tsb_laws.specs.BuiltIn.{narrow_empty, AreValues, widened_puts, narrow_two, narrow_quad, narrow_quad_values}
 use Rattle.tsb_laws.specs.Versions.{IsWideOf}
@@ -28,8 +29,17 @@ values-wide plan (e ∷ es) are =
     ap (λ (q : Plan). with_values q (widened_puts es)) (with_value-same plan e.0 e.1 e.2 (from-one e.0 e.1 are.0.placed))
     ∙ values-wide (with_value plan e.0 e.1 e.2) es are.1
 
+-- with more detectors, overlaps and preempts the same values are put
+values-full : (plan : Plan) (es : List (Object × ℕ × ℕ)) → with_values (full plan) es ≡ full (with_values plan es)
+values-full plan [] = refl
+values-full plan (e ∷ es) = values-full (with_value plan e.0 e.1 e.2) es
+
+rows-full : (plan : Plan) (rows : List (Object × List ℕ)) → with_rows (full plan) rows ≡ full (with_rows plan rows)
+rows-full plan [] = refl
+rows-full plan (e ∷ es) = ap (λ (q : Plan). with_rows q es) (values-full plan (row e.0 1 e.1)) ∙ rows-full (with_values plan (row e.0 1 e.1)) es
+
 empty-narrow : IsNarrow narrow_empty
-empty-narrow = record { phase_count = refl; side_count = refl; placed = λ o i out. refl; bounded = λ o i. omega arith }
+empty-narrow = record { phase_count = refl; side_count = refl; counts = refl; placed = λ o i out. refl; bounded = λ o i. omega arith }
 
 no-value : (o : Object) (k : ℕ) → widened_value (λ p i. 0) o k ≡ 0
 no-value o k =
@@ -41,17 +51,19 @@ no-value o k =
       ]
     ]
 
-empty-wide : widened narrow_empty ≡ empty
+empty-wide : full (widened narrow_empty) ≡ empty
 empty-wide = ap made (fun_ext (λ o. fun_ext (λ k. no-value o k)))
   where
     made : (Object → ℕ → ℕ) → Plan
-    made value = record { phase_count = 16; side_count = 4; value = value }
+    made value = record { phase_count = 16; side_count = 4; counts = all_counts; value = value }
 
 pub puts_make_narrow_plans : (es : List (Object × ℕ × ℕ)) → AreValues es → IsNarrow (with_values narrow_empty es)
 puts_make_narrow_plans es are = values-narrow narrow_empty es empty-narrow are
 
-pub puts_make_wide_plans : (es : List (Object × ℕ × ℕ)) → AreValues es → with_values empty (widened_puts es) ≡ widened (with_values narrow_empty es)
-puts_make_wide_plans es are = ap (λ (q : Plan). with_values q (widened_puts es)) (sym empty-wide) ∙ values-wide narrow_empty es are
+pub puts_make_wide_plans : (es : List (Object × ℕ × ℕ)) → AreValues es → with_values empty (widened_puts es) ≡ full (widened (with_values narrow_empty es))
+puts_make_wide_plans es are =
+    ap (λ (q : Plan). with_values q (widened_puts es)) (sym empty-wide) ∙ values-full (widened narrow_empty) (widened_puts es)
+    ∙ ap full (values-wide narrow_empty es are)
 
 -- ## The built-in plans
 
@@ -141,6 +153,9 @@ quad_is_wide = record {
   is_narrow = values-narrow (with_rows narrow_empty quad_rows) narrow_quad_values (rows-narrow narrow_empty quad_rows empty-narrow quad-flat)
       (values-fit narrow_quad_values refl);
   is_wide =
-      ap (λ (q : Plan). with_values q quad_values) (ap (λ (q : Plan). with_rows q quad_rows) (sym empty-wide) ∙ rows-wide narrow_empty quad_rows quad-flat)
-      ∙ values-wide (with_rows narrow_empty quad_rows) narrow_quad_values (values-fit narrow_quad_values refl);
+      ap (λ (q : Plan). with_values q quad_values)
+      (ap (λ (q : Plan). with_rows q quad_rows) (sym empty-wide) ∙ rows-full (widened narrow_empty) quad_rows
+      ∙ ap full (rows-wide narrow_empty quad_rows quad-flat))
+      ∙ values-full (widened (with_rows narrow_empty quad_rows)) quad_values
+      ∙ ap full (values-wide (with_rows narrow_empty quad_rows) narrow_quad_values (values-fit narrow_quad_values refl));
 }

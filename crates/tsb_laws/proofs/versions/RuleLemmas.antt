@@ -109,7 +109,7 @@ names_enabled-same plan list narrow few =
 
 included-same : (plan : Plan) → IsNarrow plan → included_phases_are_enabled (widened plan) ≡ included_phases_are_enabled plan
 included-same plan narrow =
-    ap (λ (test : ℕ → Bool). list_all test (run_from 1 4))
+    ap (λ (test : ℕ → Bool). list_all test (run_from 1 plan.counts.overlaps))
     (fun_ext (λ o. names_enabled-same plan (plan.value OverlapIncludedPhases o) narrow (narrow.bounded OverlapIncludedPhases o)))
 
 goes_with_all-same : (plan : Plan) (list p : ℕ) → IsNarrow plan → list ≤ 255 → goes_with_all (widened plan) list p ≡ goes_with_all plan list p
@@ -133,7 +133,7 @@ concurrent_lists-same plan n narrow =
 
 preempts-same : (plan : Plan) → IsNarrow plan → preempts_are_concurrent (widened plan) ≡ preempts_are_concurrent plan
 preempts-same plan narrow =
-    ap (λ (test : ℕ → Bool). list_all test (run_from 1 4)) (fun_ext (λ n. concurrent_lists-same plan n narrow))
+    ap (λ (test : ℕ → Bool). list_all test (run_from 1 plan.counts.preempts)) (fun_ext (λ n. concurrent_lists-same plan n narrow))
 
 broken_by_parts-same : (plan : Plan) → IsNarrow plan → broken_by_parts (widened plan) ≡ broken_by_parts plan
 unfolding broken_by_parts
@@ -151,7 +151,7 @@ broken_by_parts-same plan narrow =
 
 modifiers-same : (plan : Plan) → IsNarrow plan → modifiers_are_right (widened plan) ≡ modifiers_are_right plan
 modifiers-same plan narrow =
-    ap (λ (test : ℕ → Bool). list_all test (run_from 1 4)) (fun_ext (λ o. at o (narrow.placed OverlapModifierPhases o refl)))
+    ap (λ (test : ℕ → Bool). list_all test (run_from 1 plan.counts.overlaps)) (fun_ext (λ o. at o (narrow.placed OverlapModifierPhases o refl)))
   where
     at : (o : ℕ) → plan.value OverlapModifierPhases o ≡ 0 → modifies_rightly (widened plan) o ≡ modifies_rightly plan o
     at o none = rw (names_enabled-same plan (plan.value OverlapModifierPhases o) narrow (rw none (omega arith))) refl

@@ -5,14 +5,17 @@ use Rattle.std.proofs.lemmas.Bool.{cases_Bool}
 use Rattle.std.proofs.lemmas.Bool.Decides.{nat_tests}
 use Rattle.tsb_step.specs.tsb_plan.declared.object.Object.{Object}
 use Rattle.tsb_step.specs.tsb_plan.declared.version.Version.TheVariants.{One}
-use Rattle.tsb_step.specs.tsb_plan.Plan.{Plan, is_enabled}
+use Rattle.tsb_step.specs.tsb_plan.Plan.{Plan, Counts, all_counts, narrow_counts, is_enabled}
 use Rattle.tsb_step.specs.tsb_plan.Versions.{is_in_rows, has_index_in, translated}
 use Rattle.tsb_step.specs.tsb_rules.Rules.{first_broken}
 use Rattle.tsb_step.specs.declared.inputs.Input.{Input}
+use Rattle.tsb_step.specs.declared.inputs.Input.TheVariants.{Set}
 use Rattle.tsb_step.specs.State.{State}
 use Rattle.tsb_step.specs.Runs.{replay, AreTaken}
 use Rattle.tsb_step.specs.Signs.{display, field, local, stage}
 use Rattle.tsb_step.specs.Step.{step, verdict}
+use Rattle.tsb_step.specs.Tables.{has_place}
+use Rattle.tsb_laws.specs.Sizes.{AreFewer, IsOfFewer, full, full_state, IsInputOf, AreInputsOf}
 use Rattle.tsb_laws.specs.Widened.{IsNarrow, is_of_version_1, narrowed, widened, widened_input, IsWithin, AreWithin, widened_state}
 use Rattle.tsb_laws.specs.Versions.{SaysTheSame, RestsBeyond}
 use Rattle.tsb_laws.proofs.versions.ListLemmas.{is_narrow}
@@ -22,7 +25,10 @@ use Rattle.tsb_laws.proofs.versions.TickLemmas.{IsNarrowState}
 use Rattle.tsb_laws.proofs.versions.RuleLemmas.{first_broken-same}
 use Rattle.tsb_laws.proofs.versions.DeskLemmas.{from-one, row_index-of, row_index-back, row_index-there, value-same, translated-row, translated-flat}
 use Rattle.tsb_laws.proofs.versions.StepLemmas.{shows-same, fields-same, step-same, step-narrow, start-narrow}
-use Rattle.tsb_laws.proofs.versions.RefusalLemmas.{verdict-same}
+use Rattle.tsb_laws.proofs.versions.RefusalLemmas.{verdict-same, wide-range}
+use Rattle.tsb_laws.proofs.sizes.RuleLemmas as sizes
+use Rattle.tsb_laws.proofs.sizes.RunLemmas.{states_same, refuse_the_same, local-same}
+use Rattle.tsb_laws.proofs.sizes.TickLemmas.{display-same, field-same}
 
 -- ## The wide plan
 
@@ -45,10 +51,11 @@ nothing-elsewhere narrow o k is other =
           | inl has ↦ absurd (other i has e)
         ]
 
-widened-says : (narrow : Plan) → IsNarrow narrow → SaysTheSame narrow (widened narrow)
+widened-says : (narrow : Plan) → IsNarrow narrow → SaysTheSame narrow (full (widened narrow))
 widened-says narrow is = record {
   phase_count = refl;
   side_count = refl;
+  counts = refl;
   there = λ o i has. value-same narrow o i (from-one o i has);
   elsewhere = λ o k other. nothing-elsewhere narrow o k is other;
 }
@@ -80,21 +87,47 @@ same-value narrow wide o k is says =
       ]
     ]
 
-pub wide_plans : (narrow wide : Plan) → IsNarrow narrow → SaysTheSame narrow wide ↔ (wide ≡ widened narrow)
+pub wide_plans : (narrow wide : Plan) → IsNarrow narrow → SaysTheSame narrow wide ↔ (wide ≡ full (widened narrow))
 wide_plans narrow wide is = (to, from)
   where
-    plan-of : ℕ → ℕ → (Object → ℕ → ℕ) → Plan
-    plan-of n d value = record { phase_count = n; side_count = d; value = value }
+    plan-of : ℕ → ℕ → Counts → (Object → ℕ → ℕ) → Plan
+    plan-of n d counts value = record { phase_count = n; side_count = d; counts = counts; value = value }
 
-    to : SaysTheSame narrow wide → wide ≡ widened narrow
-    to says = ap₂ (λ n d. plan-of n d wide.value) says.phase_count says.side_count
-        ∙ ap (plan-of 16 4) (fun_ext (λ o. fun_ext (λ k. same-value narrow wide o k is says)))
+    to : SaysTheSame narrow wide → wide ≡ full (widened narrow)
+    to says =
+        ap₂ (λ (n d : ℕ). plan-of n d wide.counts wide.value) says.phase_count says.side_count
+        ∙ ap₂ (λ (counts : Counts) (value : Object → ℕ → ℕ). plan-of 16 4 counts value) says.counts
+        (fun_ext (λ o. fun_ext (λ k. same-value narrow wide o k is says)))
 
-    from : wide ≡ widened narrow → SaysTheSame narrow wide
+    from : wide ≡ full (widened narrow) → SaysTheSame narrow wide
     from e = subst (λ (q : Plan). SaysTheSame narrow q) (sym e) (widened-says narrow is)
 
+-- ## The plan of 16 phases and 4 sides with the detectors, overlaps and preempts of version 1
+
+narrow-fewer : AreFewer narrow_counts
+narrow-fewer = record { vehicle_detectors = omega arith; pedestrian_detectors = omega arith; overlaps = omega arith; preempts = omega arith }
+
+-- what version 1 has an index for has a place there
+place-there : (narrow : Plan) (o : Object) (i : ℕ) → IsNarrow narrow → has_index_in One o i ≡ true → has_place (widened narrow) o (translated One o i) ≡ true
+place-there narrow o i is has = rw is.counts (wide-range o i has)
+
+few-there : (narrow : Plan) → IsNarrow narrow → IsOfFewer (widened narrow)
+few-there narrow is = record {
+  fewer = subst AreFewer (sym is.counts) narrow-fewer;
+  placed = λ o k out. nothing-elsewhere narrow o k is (λ i has e. true≢false (sym (ap (has_place (widened narrow) o) (sym e) ∙ place-there narrow o i is has) ∙ out));
+}
+
+input-there : (narrow : Plan) (i : Input) → IsNarrow narrow → IsWithin i → IsInputOf (widened narrow) (widened_input i)
+input-there narrow (Set station id v) is low = place-there narrow id.object id.index is low.placed
+input-there narrow i is low = tt
+
+inputs-there : (narrow : Plan) (is : List Input) → IsNarrow narrow → AreWithin is → AreInputsOf (widened narrow) (map widened_input is)
+inputs-there narrow [] plan within = tt
+inputs-there narrow (i ∷ is) plan within = (input-there narrow i plan within.0, inputs-there narrow is plan within.1)
+
 pub break_the_same_rule : (narrow wide : Plan) → IsNarrow narrow → SaysTheSame narrow wide → first_broken wide ≡ first_broken narrow
-break_the_same_rule narrow wide is says = ap first_broken ((wide_plans narrow wide is).0 says) ∙ first_broken-same narrow is
+break_the_same_rule narrow wide is says =
+    ap first_broken ((wide_plans narrow wide is).0 says) ∙ sizes.first_broken-same (widened narrow) (few-there narrow is) ∙ first_broken-same narrow is
 
 -- ## Runs
 
@@ -110,24 +143,28 @@ same-run plan (i ∷ is) narrow within =
     ∙ step-same (replay plan is) i (narrow-run plan is narrow within.1) within.0
 
 pub states_agree : (narrow wide : Plan) (is : List Input) → IsNarrow narrow → SaysTheSame narrow wide → AreWithin is →
-    replay wide (map widened_input is) ≡ widened_state (replay narrow is)
+    replay wide (map widened_input is) ≡ full_state (widened_state (replay narrow is))
 states_agree narrow wide is plan says within =
-    ap (λ (q : Plan). replay q (map widened_input is)) ((wide_plans narrow wide plan).0 says) ∙ same-run narrow is plan within
+    ap (λ (q : Plan). replay q (map widened_input is)) ((wide_plans narrow wide plan).0 says)
+    ∙ states_same (widened narrow) (map widened_input is) (few-there narrow plan) (inputs-there narrow is plan within)
+    ∙ ap full_state (same-run narrow is plan within)
 
 pub heads_agree : (narrow wide : Plan) (is : List Input) → IsNarrow narrow → SaysTheSame narrow wide → AreWithin is →
     display (replay wide (map widened_input is)) ≡ display (replay narrow is)
 heads_agree narrow wide is plan says within =
-    ap display (states_agree narrow wide is plan says within) ∙ shows-same (replay narrow is) (narrow-run narrow is plan within).plan
+    ap display (states_agree narrow wide is plan says within) ∙ display-same (widened_state (replay narrow is))
+    ∙ shows-same (replay narrow is) (narrow-run narrow is plan within).plan
 
 pub fields_agree : (narrow wide : Plan) (is : List Input) → IsNarrow narrow → SaysTheSame narrow wide → AreWithin is →
     field (replay wide (map widened_input is)) ≡ field (replay narrow is)
 fields_agree narrow wide is plan says within =
-    ap field (states_agree narrow wide is plan says within) ∙ fields-same (replay narrow is) (narrow-run narrow is plan within).plan
+    ap field (states_agree narrow wide is plan says within) ∙ field-same (widened_state (replay narrow is))
+    ∙ fields-same (replay narrow is) (narrow-run narrow is plan within).plan
 
 pub counters_agree : (narrow wide : Plan) (is : List Input) → IsNarrow narrow → SaysTheSame narrow wide → AreWithin is →
     local (replay wide (map widened_input is)) ≡ local (replay narrow is)
 counters_agree narrow wide is plan says within =
-    ap (λ (s : State). local s) (states_agree narrow wide is plan says within)
+    ap (λ (s : State). local s) (states_agree narrow wide is plan says within) ∙ local-same (widened_state (replay narrow is))
     ∙ local_now-same (replay narrow is).plan (replay narrow is).pattern (replay narrow is).correction (replay narrow is).now (narrow-run narrow is plan within).plan
 
 pub stages_agree : (narrow wide : Plan) (is : List Input) → IsNarrow narrow → SaysTheSame narrow wide → AreWithin is →
@@ -137,7 +174,10 @@ stages_agree narrow wide is plan says within = ap (λ (s : State). stage s) (sta
 pub refusals_agree : (i : Input) → IsWithin i → (narrow wide : Plan) (is : List Input) → IsNarrow narrow → SaysTheSame narrow wide →
     AreWithin is → verdict (replay wide (map widened_input is)) (widened_input i) ≡ verdict (replay narrow is) i
 refusals_agree i low narrow wide is plan says within =
-    ap (λ (s : State). verdict s (widened_input i)) (states_agree narrow wide is plan says within)
+    ap (λ (q : Plan). verdict (replay q (map widened_input is)) (widened_input i)) ((wide_plans narrow wide plan).0 says)
+    ∙ refuse_the_same (widened narrow) (map widened_input is) (few-there narrow plan) (inputs-there narrow is plan within) (widened_input i)
+    (input-there narrow i plan low)
+    ∙ ap (λ (s : State). verdict s (widened_input i)) (same-run narrow is plan within)
     ∙ verdict-same (replay narrow is) i (narrow-run narrow is plan within) low
 
 take : (narrow wide : Plan) (is : List Input) → IsNarrow narrow → SaysTheSame narrow wide → AreWithin is →

@@ -8,7 +8,7 @@ use Rattle.tsb_step.specs.tsb_plan.declared.object.Object.{Object}
 use Rattle.tsb_step.specs.tsb_plan.declared.version.Version.{Version}
 use Rattle.tsb_step.specs.tsb_plan.declared.version.Version.TheVariants.{One, Two, Three}
 use Rattle.tsb_step.specs.tsb_plan.Names.{object_named}
-use Rattle.tsb_step.specs.tsb_plan.Plan.{Plan, empty, is_same, with_value}
+use Rattle.tsb_step.specs.tsb_plan.Plan.{Plan, all_counts, empty, is_same, with_value}
 use Rattle.tsb_step.specs.tsb_plan.Versions.{is_in_rows, has_index_in, indices_in, greatest_in, translated}
 use Rattle.tsb_step.specs.tsb_plan.VersionLaws.{TranslateApart}
 use Rattle.tsb_step.proofs.tsb_plan.TableLemmas.{order-injective}
@@ -29,17 +29,18 @@ use Rattle.tsb_laws.proofs.versions.RunLemmas.{break_the_same_rule, heads_agree,
 
 -- ## What is read so far
 
--- a plan of 16 phases and 4 sides, with no value over what the version lets its object take
+-- a plan with as many of each thing as a plan in memory, and with no value over what the version lets its object take
 pub record IsRead (v : Version) (plan : Plan) : Type 0 where
   pub phases : plan.phase_count ≡ 16
   pub sides : plan.side_count ≡ 4
+  pub counts : plan.counts ≡ all_counts
   pub bounded : (o : Object) (i : ℕ) → plan.value o i ≤ greatest_in v o
 
 empty-read : (v : Version) → IsRead v empty
-empty-read v = record { phases = refl; sides = refl; bounded = λ o i. omega arith }
+empty-read v = record { phases = refl; sides = refl; counts = refl; bounded = λ o i. omega arith }
 
 put-read : (v : Version) (plan : Plan) (o : Object) (i n : ℕ) → n ≤ greatest_in v o → IsRead v plan → IsRead v (with_value plan o i n)
-put-read v plan o i n few is = record { phases = is.phases; sides = is.sides; bounded = λ p k. most p k (is_same o i p k) refl }
+put-read v plan o i n few is = record { phases = is.phases; sides = is.sides; counts = is.counts; bounded = λ p k. most p k (is_same o i p k) refl }
   where
     most : (p : Object) (k : ℕ) (b : Bool) → is_same o i p k ≡ b → (if b then n else plan.value p k) ≤ greatest_in v p
     most p k true it = subst (λ (q : Object). n ≤ greatest_in v q) (order-injective o p (same-parts o p i k it).0) few
@@ -200,6 +201,7 @@ pub named-narrow : (text : List ℕ) (members : Members) (plan : Plan) → IsOfV
 named-narrow text members plan is e = record {
   phase_count = refl;
   side_count = refl;
+  counts = refl;
   placed = λ o i out. named-nowhere members o i out;
   bounded = named-bounded members plan (read-in One text members plan is e);
 }
@@ -210,6 +212,7 @@ named-said text members plan is e =
     record {
       phase_count = was.read.phases;
       side_count = was.read.sides;
+      counts = was.read.counts;
       there = λ o i has. was.these.there o i has ∙ sym (named-there members o i has);
       elsewhere = was.these.elsewhere;
     }

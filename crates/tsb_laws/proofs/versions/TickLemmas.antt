@@ -5,7 +5,7 @@ use Rattle.std.proofs.lemmas.Bool.{cases_Bool}
 use Rattle.tsb_step.specs.tsb_cells.declared.timer.Timer.{Timer}
 use Rattle.tsb_step.specs.tsb_types.declared.row.Row.{Row}
 use Rattle.tsb_step.specs.tsb_types.Clip.{clipped, within}
-use Rattle.tsb_step.specs.tsb_types.Sets.{has_number, is_phase}
+use Rattle.tsb_step.specs.tsb_types.Sets.{has_detector, has_number, is_phase}
 use Rattle.tsb_step.specs.tsb_plan.Plan.{Plan}
 use Rattle.tsb_step.specs.tsb_plan.declared.object.Object.TheVariants.{PreemptChoosesAnew}
 use Rattle.tsb_step.specs.tsb_plan.Parts.{call_phase, is_anew}
@@ -76,7 +76,7 @@ green_timer-same s (Some p) = refl
 detectors-same : (s : State) (row : Row) → new_detectors (widened_state s) row ≡ new_detectors s row
 unfolding new_detectors
 detectors-same s row =
-    ap (λ (green : ℕ → Timer). all_after s.plan (s.now + 1) (has_number row.vehicles) green s.detectors)
+    ap (λ (green : ℕ → Timer). all_after s.plan (s.now + 1) (has_detector row.vehicles) green s.detectors)
     (fun_ext (λ d. green_timer-same s (call_phase s.plan d)))
 
 -- ## Calls

@@ -31,9 +31,9 @@ module _ (plan : Plan) (given : Given) (done : Done) (was : Memories) (ok : IsSe
   none-actuated : (p : ℕ) → is_phase p ≡ false → actuations plan given p ≡ 0
   unfolding actuations
   none-actuated p out =
-      count-same (λ d. calls plan d p && given.actuated d) (λ d. false) 1 16
+      count-same (λ d. calls plan d p && given.actuated d) (λ d. false) 1 plan.counts.vehicle_detectors
       (λ d from below. let none : calls plan d p ≡ false = not-called (plan.value VehicleDetectorCallPhase d) p (ok.called d) out in rw none refl)
-      ∙ count-none (λ d. false) 1 16 (λ d. refl)
+      ∙ count-none (λ d. false) 1 plan.counts.vehicle_detectors (λ d. refl)
 
   few : (b ends : Bool) (n more : ℕ) → n ≤ 255 → (if ends then 0 else (if b then n else min 255 (n + more))) ≤ 255
   few b true n more h = omega arith

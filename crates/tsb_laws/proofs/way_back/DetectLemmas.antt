@@ -5,7 +5,7 @@ use Rattle.tsb_step.specs.tsb_cells.declared.timer.Timer.{Timer}
 use Rattle.tsb_step.specs.tsb_cells.declared.timer.Timer.TheVariants.{Off, On}
 use Rattle.tsb_step.specs.tsb_cells.Timer.{advanced, started, is_on, IsWithin}
 use Rattle.tsb_step.proofs.tsb_cells.TimerLemmas.{IsWithin-advanced}
-use Rattle.tsb_step.proofs.tsb_types.ClipLemmas.{is_phase_from}
+use Rattle.tsb_step.proofs.tsb_detect.ToldLemmas.{detector-from}
 use Rattle.tsb_step.specs.tsb_plan.Plan.{Plan}
 use Rattle.tsb_step.specs.tsb_detect.Detector.{Detector, at_power_up, as_read, is_minute, differs, new_alarm, sound_output, failed_output, next, all_after}
 use Rattle.tsb_step.specs.tsb_detect.Laws.{IsStateBy, AreStatesBy}
@@ -76,7 +76,7 @@ module _ (plan : Plan) (d now : ℕ) (x : Bool) (green : Timer) (was : Detector)
 pub detectors-after : (plan : Plan) (now : ℕ) (input : ℕ → Bool) (green : ℕ → Timer) (was : ℕ → Detector) → AreStatesBy now was →
     AreStatesBy (now + 1) (all_after plan (now + 1) input green was)
 detectors-after plan now input green was by = record {
-  each = λ d from to. rw (is_phase_from d from to) (detector-after plan d now (input d) (green d) (was d) (by.each d from to));
+  each = λ d from to. rw (detector-from d from to) (detector-after plan d now (input d) (green d) (was d) (by.each d from to));
   others = λ d out. rw out refl;
 }
 

@@ -10,7 +10,7 @@ use Rattle.tsb_step.proofs.tsb_types.RunLemmas.{length-run_from, get_or-run_from
 use Rattle.tsb_step.specs.tsb_plan.declared.object.Object.{Object}
 use Rattle.tsb_step.specs.tsb_plan.declared.object.Object.TheVariants.{PhaseEnabled}
 use Rattle.tsb_step.specs.tsb_plan.Objects.{objects, order, indices, first_cell, has_index, greatest, value_in}
-use Rattle.tsb_step.specs.tsb_plan.Plan.{Plan, is_same, with_value}
+use Rattle.tsb_step.specs.tsb_plan.Plan.{Plan, Counts, all_counts, is_same, with_value}
 use Rattle.tsb_step.specs.tsb_plan.PlanOf.{plan_in, plan_cells, plan_of}
 use Rattle.tsb_step.proofs.tsb_plan.TableLemmas.{at-order, order-below, length-objects, order-injective}
 use Rattle.tsb_step.proofs.tsb_plan.PlanLemmas.{same-parts}
@@ -21,6 +21,7 @@ use Rattle.tsb_step.proofs.tsb_transact.DeskLemmas.{value-taken}
 use Rattle.tsb_step.specs.tsb_objects.declared.checked.Checked.{Checked}
 use Rattle.tsb_step.specs.tsb_objects.Checked.{checked_plan}
 use Rattle.tsb_step.specs.Good.{AreFit}
+use Rattle.tsb_step.specs.Laws.{IsWide}
 use Rattle.tsb_step.specs.Tables.{has_place, indices_for, greatest_for}
 use Rattle.tsb_step.proofs.PlaceLemmas.{same_indices, same_greatest, memory_is_consistent, same_refusal}
 use Rattle.tsb_laws.specs.AllRed.{IsInRange}
@@ -95,8 +96,8 @@ cell-read v o i has =
 
 -- ## A plan and its cells
 
-plan-with : ℕ → ℕ → (Object → ℕ → ℕ) → Plan
-plan-with n d value = record { phase_count = n; side_count = d; value = value }
+plan-with : ℕ → ℕ → Counts → (Object → ℕ → ℕ) → Plan
+plan-with n d counts value = record { phase_count = n; side_count = d; counts = counts; value = value }
 
 value-read : (plan : Plan) → ((o : Object) (i : ℕ) → has_index o i ≡ false → plan.value o i ≡ 0) → (o : Object) (i : ℕ) →
     value_in (plan_cells plan) o i ≡ plan.value o i
@@ -109,25 +110,29 @@ value-read plan none o i =
 pub plan-read : (plan : Plan) → IsHeld plan → plan_in (plan_cells plan) ≡ plan
 unfolding plan-with
 plan-read plan held =
-    ap (plan-with 16 4) (fun_ext (λ o. fun_ext (λ i. value-read plan none o i)))
-    ∙ ap₂ (λ (n d : ℕ). plan-with n d plan.value) (sym held.phases) (sym held.sides)
+    ap₂ (plan-with 16 4) (sym held.counts) (fun_ext (λ o. fun_ext (λ i. value-read plan none o i)))
+    ∙ ap₂ (λ (n d : ℕ). plan-with n d plan.counts plan.value) (sym held.phases) (sym held.sides)
   where
     none : (o : Object) (i : ℕ) → has_index o i ≡ false → plan.value o i ≡ 0
     none o i out =
         let off : has_place plan o i ≡ false =
-        ap (λ (n : ℕ). nat_le 1 i && nat_le i (indices_for n o)) held.phases ∙ ap (λ (n : ℕ). nat_le 1 i && nat_le i n) (same_indices o) ∙ out in
+        ap₂ (λ (n : ℕ) (counts : Counts). nat_le 1 i && nat_le i (indices_for n counts o)) held.phases held.counts
+        ∙ ap (λ (n : ℕ). nat_le 1 i && nat_le i n) (same_indices o) ∙ out in
         held.consistent.placed o i off
 
 -- ## Plans that the program holds
 
-pub bounded-with : (plan : Plan) (es : List Edit) → plan.phase_count ≡ 16 → plan.side_count ≡ 4 → AreFit plan es → (base : Plan) →
+pub is_wide : (plan : Plan) → IsHeld plan → IsWide plan
+is_wide plan held = record { phases = held.phases; sides = held.sides; counts = held.counts }
+
+pub bounded-with : (plan : Plan) (es : List Edit) → IsWide plan → AreFit plan es → (base : Plan) →
     ((o : Object) (i : ℕ) → base.value o i ≤ greatest o) → (o : Object) (i : ℕ) → (with_edits base es).value o i ≤ greatest o
-bounded-with plan [] phases sides fit base bounded o i = bounded o i
-bounded-with plan (e ∷ es) phases sides fit base bounded o i =
-    bounded-with plan es phases sides fit.1 (with_value base e.id.object e.id.index e.value) (λ p k. at p k (is_same e.id.object e.id.index p k) refl) o i
+bounded-with plan [] wide fit base bounded o i = bounded o i
+bounded-with plan (e ∷ es) wide fit base bounded o i =
+    bounded-with plan es wide fit.1 (with_value base e.id.object e.id.index e.value) (λ p k. at p k (is_same e.id.object e.id.index p k) refl) o i
   where
     fits : e.value ≤ greatest e.id.object
-    fits = value-taken e.id e.value (sym (same_refusal plan e.id e.value phases sides) ∙ fit.0)
+    fits = value-taken e.id e.value (sym (same_refusal plan e.id e.value wide) ∙ fit.0)
 
     at : (p : Object) (k : ℕ) (b : Bool) → is_same e.id.object e.id.index p k ≡ b → (if b then e.value else base.value p k) ≤ greatest p
     at p k true it = subst (λ (q : Object). e.value ≤ greatest q) (order-injective e.id.object p (same-parts e.id.object p e.id.index k it).0) fits
@@ -139,6 +144,7 @@ checked_is_held checked = record {
   consistent = memory_is_consistent checked.plan checked.passed;
   phases = refl;
   sides = refl;
+  counts = refl;
   bounded = λ o i. checked.plan.ranged.each o i;
 }
 

@@ -8,6 +8,7 @@ use Rattle.tsb_step.proofs.tsb_cells.TimerLemmas.{IsWithin-advanced, IsWithin-st
 use Rattle.tsb_step.specs.tsb_types.declared.interval.Interval.{Interval}
 use Rattle.tsb_step.specs.tsb_types.declared.stage.Stage.{Stage}
 use Rattle.tsb_step.specs.tsb_types.declared.stage.Stage.TheVariants.{Track, Dwell, Exit}
+use Rattle.tsb_step.specs.tsb_types.declared.limits.TheConstants.{PREEMPTS}
 use Rattle.tsb_step.specs.tsb_types.Lists.{first, run_from}
 use Rattle.tsb_step.proofs.tsb_types.FirstLemmas.{first-within}
 use Rattle.tsb_step.specs.tsb_plan.Plan.{Plan}
@@ -34,7 +35,7 @@ while-outside Track t out = absurd (out refl)
 while-outside Dwell t out = refl
 while-outside Exit t out = refl
 
-begun-in : (plan : Plan) (now m : ℕ) → 1 ≤ m → m ≤ 4 → IsServiceIn now (begun plan m)
+begun-in : (plan : Plan) (now m : ℕ) → 1 ≤ m → m ≤ PREEMPTS → IsServiceIn now (begun plan m)
 begun-in plan now m from to = record {
   from = from;
   within = to;
@@ -73,7 +74,7 @@ going-in plan given w now None is = tt
 going-in plan given w now (Some s) is =
     moved-in plan given.interval now s (new_stage plan given.interval (has_input given w s.preempt) s) is
 
-may-begin : (was : Option Service) (o : Option ℕ) (m : ℕ) → if_may_begin was o ≡ Some m → o ≡ Some m
+pub may-begin : (was : Option Service) (o : Option ℕ) (m : ℕ) → if_may_begin was o ≡ Some m → o ≡ Some m
 may-begin was None m h = h
 may-begin was (Some n) m h = go (may_begin was n) h
   where
@@ -81,20 +82,21 @@ may-begin was (Some n) m h = go (may_begin was n) h
     go true k = k
     go false k = cc
 
-begins-in : (plan : Plan) (given : Given) (w : Preempts) (m : ℕ) → beginning plan given w ≡ Some m → (1 ≤ m) × (m ≤ 4)
+begins-in : (plan : Plan) (given : Given) (w : Preempts) (m : ℕ) → plan.counts.preempts ≤ PREEMPTS → beginning plan given w ≡ Some m → (1 ≤ m) × (m ≤ PREEMPTS)
 unfolding beginning requesting
-begins-in plan given w m h =
-    let found : first (requests plan given w) (run_from 1 4) ≡ Some m = may-begin w.service (first (requests plan given w) (run_from 1 4)) m h in
-    let at : (1 ≤ m) × (m < 1 + 4) = first-within (requests plan given w) 1 4 m found in
-    (at.0, omega (arith, at.1))
+begins-in plan given w m few h =
+    let found : first (requests plan given w) (run_from 1 plan.counts.preempts) ≡ Some m =
+    may-begin w.service (first (requests plan given w) (run_from 1 plan.counts.preempts)) m h in
+    let at : (1 ≤ m) × (m < 1 + plan.counts.preempts) = first-within (requests plan given w) 1 plan.counts.preempts m found in
+    (at.0, omega (arith, at.1, few))
 
-service-in : (plan : Plan) (given : Given) (w : Preempts) (now : ℕ) → IsServedIn now w.service → IsServedIn now (new_service plan given w)
+service-in : (plan : Plan) (given : Given) (w : Preempts) (now : ℕ) → plan.counts.preempts ≤ PREEMPTS → IsServedIn now w.service → IsServedIn now (new_service plan given w)
 unfolding new_service
-service-in plan given w now is = go (beginning plan given w) refl
+service-in plan given w now few is = go (beginning plan given w) refl
   where
     go : (o : Option ℕ) → beginning plan given w ≡ o → IsServedIn now (service_by plan given w o)
     go None e = going-in plan given w now w.service is
-    go (Some m) e = begun-in plan now m (begins-in plan given w m e).0 (begins-in plan given w m e).1
+    go (Some m) e = begun-in plan now m (begins-in plan given w m few e).0 (begins-in plan given w m few e).1
 
 -- ## All preempts
 
@@ -115,9 +117,9 @@ spent-off true false c h = rw h refl
 spent-off false true c h = rw h refl
 spent-off false false c h = refl
 
-pub preempts-after : (plan : Plan) (given : Given) (now : ℕ) (was : Preempts) → ((n : ℕ) → is_preempt n ≡ false → given.row n ≡ false) → IsStateBy now was →
-    IsStateBy (now + 1) (next plan given was)
-preempts-after plan given now was none by = record {
+pub preempts-after : (plan : Plan) (given : Given) (now : ℕ) (was : Preempts) → plan.counts.preempts ≤ PREEMPTS →
+    ((n : ℕ) → is_preempt n ≡ false → given.row n ≡ false) → IsStateBy now was → IsStateBy (now + 1) (next plan given was)
+preempts-after plan given now was few none by = record {
   each = λ n from to. record {
     delay = delay-within (now + 1) (has_input given (as_read was) n) (advanced (was.delay n)) (IsWithin-advanced now (was.delay n) (by.each n from to).delay);
     spent = λ h. delays n (input-on (was.spent n) (dwell_ends plan given (as_read was) n) (has_input given (as_read was) n) h);
@@ -127,7 +129,7 @@ preempts-after plan given now was none by = record {
     delay = rw (none n out, (by.off n out).switch) refl;
     spent = spent-off (was.spent n) (dwell_ends plan given (as_read was) n) (has_input given (as_read was) n) (rw (none n out, (by.off n out).switch) refl);
   };
-  service = service-in plan given (as_read was) (now + 1) (read-in now was.service by.service);
+  service = service-in plan given (as_read was) (now + 1) few (read-in now was.service by.service);
 }
   where
     delays : (n : ℕ) → has_input given (as_read was) n ≡ true → is_on (delay_timer given (as_read was) n) ≡ true
@@ -147,7 +149,7 @@ preempts-reset now now' was by = record {
   service = tt;
 }
 
--- a switch that is not refused is of one of the four
+-- a switch that is not refused is of a preempt
 pub preempts-switched : (plan : Plan) (now n : ℕ) (on : Bool) (was : Preempts) → switch_refusal plan n on ≡ None → IsStateBy now was →
     IsStateBy now (with_switch n on was)
 preempts-switched plan now n on was allowed by = record {

@@ -2,7 +2,7 @@
 use Rattle.std.proofs.Common.{◌≡◌, ℕ, ◌+◌, ◌≤◌, ◌<◌, nat_le, Bool, true, false, ◌&&◌, if◌then◌else◌, List, [], ◌∷◌, Option, Some, None, is_some, refl, sym, ap, subst, arith, ◌∙◌}
 use Rattle.tsb_step.specs.tsb_types.declared.lamp.Lamp.{Lamp}
 use Rattle.tsb_step.specs.tsb_types.declared.row.Row.{Row}
-use Rattle.tsb_step.specs.tsb_types.Sets.{is_phase, has_number}
+use Rattle.tsb_step.specs.tsb_types.Sets.{is_phase, has_detector, has_number}
 use Rattle.tsb_step.specs.tsb_plan.declared.object.Object.TheVariants.{PhaseEnabled, VehicleDetectorCallPhase}
 use Rattle.tsb_step.specs.tsb_plan.declared.object.ObjectId.{ObjectId}
 use Rattle.tsb_step.specs.tsb_plan.Plan.{Plan, is_enabled}
@@ -32,7 +32,7 @@ use Rattle.tsb_step.specs.Step.{step, verdict, ticked, with_lamp, reset, found}
 use Rattle.tsb_step.specs.Tables.{place_refusal}
 use Rattle.tsb_step.specs.Tick as tick
 use Rattle.tsb_step.specs.Tick.{new_detectors, phases_given, moved, moves, rings_given, calls_given, done, preempts_given, green_timer}
-use Rattle.tsb_step.proofs.EditLemmas.{same_phase_count, same_side_count}
+use Rattle.tsb_step.proofs.EditLemmas.{same_phase_count, same_side_count, same_counts}
 use Rattle.tsb_step.proofs.GivenLemmas.{symmetric, given}
 use Rattle.tsb_step.proofs.GiveUpLemmas.{by_rings}
 use Rattle.tsb_step.proofs.GoodLemmas.{rings_after_moves, good_next, good_step, good_run}
@@ -40,11 +40,11 @@ use Rattle.tsb_step.proofs.PlaceLemmas.{same_refusal}
 use Rattle.tsb_step.proofs.tsb_phase.MoveLemmas.{stays_at_power_up}
 use Rattle.tsb_laws.specs.Runs.{IsHeld, IsTyped, AreTyped}
 use Rattle.tsb_laws.proofs.safety.LastTickLemmas.{run_early}
-use Rattle.tsb_laws.proofs.way_back.PlanLemmas.{bounded-with}
+use Rattle.tsb_laws.proofs.way_back.PlanLemmas.{bounded-with, is_wide}
 use Rattle.tsb_laws.proofs.way_back.DeskLemmas.{sound-set}
 use Rattle.tsb_laws.proofs.way_back.CorrectionLemmas.{cycles-within, ahead-selected, ahead-clocked, midnight-selected, midnight-below}
 use Rattle.tsb_step.specs.tsb_types.declared.clock_time.TheConstants.{DAY, FIRST_MOMENT}
-use Rattle.tsb_step.specs.tsb_types.declared.limits.TheConstants.{TICKS}
+use Rattle.tsb_step.specs.tsb_types.declared.limits.TheConstants.{TICKS, PREEMPTS}
 use Rattle.tsb_step.specs.tsb_coord.Clock.{midnight_at, start_of}
 use Rattle.tsb_step.specs.tsb_coord.Coordinated.{selects}
 use Rattle.tsb_step.specs.tsb_coord.Laws.{IsStart}
@@ -101,7 +101,7 @@ module _ (s : State) (row : Row) (good : IsGood s) (held : IsHeld s.plan) (was :
 
   detectors-next : detect.AreStatesBy (s.now + 1) (new_detectors s row)
   unfolding new_detectors
-  detectors-next = detectors-after s.plan s.now (has_number row.vehicles) (λ d. green_timer s (call_phase s.plan d)) s.detectors was.detectors
+  detectors-next = detectors-after s.plan s.now (has_detector row.vehicles) (λ d. green_timer s (call_phase s.plan d)) s.detectors was.detectors
 
   rings-moved : rings.IsInRange (tick.after_moves s row).rings
   unfolding rings_given
@@ -120,6 +120,9 @@ module _ (s : State) (row : Row) (good : IsGood s) (held : IsHeld s.plan) (was :
     ends = ends-none;
   }
 
+  preempts-few : s.plan.counts.preempts ≤ PREEMPTS
+  preempts-few = rw held.counts (omega arith)
+
   row-none : (n : ℕ) → is_preempt n ≡ false → (preempts_given s row).row n ≡ false
   row-none n out = rw out refl
 
@@ -130,7 +133,7 @@ module _ (s : State) (row : Row) (good : IsGood s) (held : IsHeld s.plan) (was :
     phases = λ p. runs-after s.plan (phases_given s row) (moved s row) p s.now (s.phases p) held.bounded (was.phases p);
     others = λ p out. stays_at_power_up s.plan (phases_given s row) (moved s row) p (s.phases p) (was.others p out) (starts-none p out) (ends-none p out);
     rings = rings-next;
-    preempts = preempts-after s.plan (preempts_given s row) s.now s.preempts row-none was.preempts;
+    preempts = preempts-after s.plan (preempts_given s row) s.now s.preempts preempts-few row-none was.preempts;
   }
 
 -- with another trip, desk, lamp, plan or tick number
@@ -312,7 +315,7 @@ told-set s station id v allowed told =
     let taken = both-none (place_refusal s.plan id v) _ rest.1 in
     told-desk s _ (record {
       sound = sound-set id v s.desk told.desk.sound (owner-owns station s.desk.owner rest.0)
-          (sym (same_refusal s.plan id v told.plan.phases told.plan.sides) ∙ taken.0) (not-refused (has_no_room id s.desk.edits) _ taken.1);
+          (sym (same_refusal s.plan id v (is_wide s.plan told.plan)) ∙ taken.0) (not-refused (has_no_room id s.desk.edits) _ taken.1);
       owner = told.desk.owner;
     }) told
 
@@ -337,7 +340,8 @@ told-committed s station allowed good told =
         consistent = after.plan;
         phases = same_phase_count s.plan s.desk.edits ∙ told.plan.phases;
         sides = same_side_count s.plan s.desk.edits ∙ told.plan.sides;
-        bounded = bounded-with s.plan s.desk.edits told.plan.phases told.plan.sides good.fit s.plan told.plan.bounded;
+        counts = same_counts s.plan s.desk.edits ∙ told.plan.counts;
+        bounded = bounded-with s.plan s.desk.edits (is_wide s.plan told.plan) good.fit s.plan told.plan.bounded;
       };
       desk = desk-closed;
       layers = record {

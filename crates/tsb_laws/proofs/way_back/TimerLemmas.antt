@@ -1,5 +1,5 @@
 -- In the record of a tick the cell of a timer has no entry exactly where the timer stayed Off or ran on.
-use Rattle.std.proofs.Common.{◌≡◌, ◌↔◌, ℕ, ◌+◌, ◌<◌, ◌≤◌, Bool, true, false, if◌then◌else◌, List, ◌∷◌, ◌++◌, length, get_or, slice_get, slice_index, Some, is_some, refl, sym, ap, subst, arith, ◌∙◌, inl, inr}
+use Rattle.std.proofs.Common.{◌≡◌, ◌↔◌, ℕ, ◌+◌, ◌*◌, ◌<◌, ◌≤◌, Bool, true, false, if◌then◌else◌, List, ◌∷◌, ◌++◌, length, get_or, slice_get, slice_index, Some, is_some, refl, sym, ap, subst, arith, ◌∙◌, inl, inr}
 use Rattle.std.proofs.lemmas.Bool.{cases_Bool, cases_eq}
 use Rattle.std.proofs.lemmas.Bool.Decides.{nat_tests}
 use Rattle.std.proofs.lemmas.List.{get_or-append-add}
@@ -11,6 +11,7 @@ use Rattle.tsb_step.specs.tsb_cells.Diff.{diff}
 use Rattle.tsb_step.specs.tsb_cells.DiffLaws.{IsChange}
 use Rattle.tsb_step.proofs.tsb_cells.ChangeLemmas.{tells_each_change}
 use Rattle.tsb_step.proofs.tsb_cells.TimerLemmas.{timer_at-timer_cell, timer_cell-timer_at, timer_cell-le, timer_cell-advanced, timer_at-next, IsWithin-timer_at}
+use Rattle.tsb_step.specs.tsb_types.declared.limits.TheConstants as limits
 use Rattle.tsb_step.specs.tsb_types.declared.limits.TheConstants.{TICKS}
 use Rattle.tsb_step.specs.tsb_types.declared.row.Row.{Row}
 use Rattle.tsb_step.specs.tsb_plan.declared.object.TheConstants.{PLAN_CELLS}
@@ -127,15 +128,15 @@ keeps c cell t few e = record {
   within = subst (λ (x : Timer). IsWithin c x) e (IsWithin-timer_at c cell);
 }
 
-module _ (c : ℕ) (row : List ℕ) (f : ℕ → Detector) (by : detect.IsBy c row) (read : detector_in c row ≡ f) (d : ℕ) (from : 1 ≤ d) (to : d ≤ 16) where
+module _ (c : ℕ) (row : List ℕ) (f : ℕ → Detector) (by : detect.IsBy c row) (read : detector_in c row ≡ f) (d : ℕ) (from : 1 ≤ d) (to : d ≤ limits.VEHICLE_DETECTORS) where
   detector-kept : detect.detector_of c (detect.row_in row d) ≡ f d
   detector-kept = sym (detector_in-row c row d from to) ∙ ap (λ (g : ℕ → Detector). g d) read
 
-  keeps-change : Keeps c (slice_index row (21 + d)) (f d).change
+  keeps-change : Keeps c (slice_index row (11 + limits.VEHICLE_DETECTORS + d)) (f d).change
   unfolding detect.row_in
   keeps-change = keeps c _ _ (by.each d from to).change (ap (λ (x : Detector). x.change) detector-kept)
 
-  keeps-extend : Keeps c (slice_index row (37 + d)) (f d).extend
+  keeps-extend : Keeps c (slice_index row (11 + 2 * limits.VEHICLE_DETECTORS + d)) (f d).extend
   unfolding detect.row_in
   keeps-extend = keeps c _ _ (by.each d from to).extend (ap (λ (x : Detector). x.extend) detector-kept)
 
@@ -168,39 +169,39 @@ module _ (c : ℕ) (row : List ℕ) (f : ℕ → Phase) (by : phases.IsBy c row)
   keeps-red_revert = keeps c _ _ (by.each p from to).red_revert (ap (λ (x : Phase). x.red_revert) phase-kept)
 
 module _ (c : ℕ) (row : List ℕ) (f : Preempts) (by : preempts.IsBy c row) (read : preempts_in c row ≡ f) where
-  delay-in : (n : ℕ) → 1 ≤ n → n ≤ 4 → timer_at c (slice_index row (1 + n)) ≡ (preempts_in c row).delay n
+  delay-in : (n : ℕ) → 1 ≤ n → n ≤ limits.PREEMPTS → timer_at c (slice_index row (1 + n)) ≡ (preempts_in c row).delay n
   unfolding preempts_in
   delay-in n from to = rw (is_preempt-from n from to) refl
 
-  none-in : is_preempt (slice_index row 6) ≡ false → slice_index row 6 ≡ 0
-  none-in off = none (slice_index row 6) by.preempt off
+  none-in : is_preempt (slice_index row (2 + limits.PREEMPTS)) ≡ false → slice_index row (2 + limits.PREEMPTS) ≡ 0
+  none-in off = none (slice_index row (2 + limits.PREEMPTS)) by.preempt off
     where
-      none : (n : ℕ) → n ≤ 4 → is_preempt n ≡ false → n ≡ 0
+      none : (n : ℕ) → n ≤ limits.PREEMPTS → is_preempt n ≡ false → n ≡ 0
       none n few out = grind (arith, nat_tests, few, out)
 
-  served-in : timer_at c (slice_index row 8) ≡ served (preempts_in c row).service
+  served-in : timer_at c (slice_index row (4 + limits.PREEMPTS)) ≡ served (preempts_in c row).service
   unfolding preempts_in service_in
   served-in =
-      elim (cases_Bool (is_preempt (slice_index row 6))) [
+      elim (cases_Bool (is_preempt (slice_index row (2 + limits.PREEMPTS)))) [
         | inl on ↦ rw on refl
         | inr off ↦ rw (off, by.no_timer (none-in off)) refl
       ]
 
-  tracked-in : timer_at c (slice_index row 9) ≡ tracked (preempts_in c row).service
+  tracked-in : timer_at c (slice_index row (5 + limits.PREEMPTS)) ≡ tracked (preempts_in c row).service
   unfolding preempts_in service_in
   tracked-in =
-      elim (cases_Bool (is_preempt (slice_index row 6))) [
+      elim (cases_Bool (is_preempt (slice_index row (2 + limits.PREEMPTS)))) [
         | inl on ↦ rw on refl
         | inr off ↦ rw (off, by.no_stage_timer (none-in off)) refl
       ]
 
-  keeps-delay : (n : ℕ) → 1 ≤ n → n ≤ 4 → Keeps c (slice_index row (1 + n)) (f.delay n)
+  keeps-delay : (n : ℕ) → 1 ≤ n → n ≤ limits.PREEMPTS → Keeps c (slice_index row (1 + n)) (f.delay n)
   keeps-delay n from to = keeps c _ _ (by.each n from to).delay (delay-in n from to ∙ ap (λ (g : Preempts). g.delay n) read)
 
-  keeps-served : Keeps c (slice_index row 8) (served f.service)
+  keeps-served : Keeps c (slice_index row (4 + limits.PREEMPTS)) (served f.service)
   keeps-served = keeps c _ _ by.timer (served-in ∙ ap (λ (g : Preempts). served g.service) read)
 
-  keeps-tracked : Keeps c (slice_index row 9) (tracked f.service)
+  keeps-tracked : Keeps c (slice_index row (5 + limits.PREEMPTS)) (tracked f.service)
   keeps-tracked = keeps c _ _ by.stage_timer (tracked-in ∙ ap (λ (g : Preempts). tracked g.service) read)
 
 moved-cell : (c cell other : ℕ) (t : Timer) → other ≡ cell → Keeps c cell t → Keeps c other t
@@ -249,8 +250,8 @@ module _ (s : State) (is : IsOfRun s) where
   read-preempts = preempt_states.states-read (clock s) s.preempts is.told.layers.preempts
 
   place-keeps : (w : Place) → IsPlace w → Keeps (clock s) (slice_index (cells_of s) (cell_of w)) (timer_of w s)
-  place-keeps (Change d) at = detector-there (21 + d) _ (omega (arith, at.1)) (keeps-change (clock s) row-detect s.detectors by-detect read-detect d at.0 at.1)
-  place-keeps (Extend d) at = detector-there (37 + d) _ (omega (arith, at.1)) (keeps-extend (clock s) row-detect s.detectors by-detect read-detect d at.0 at.1)
+  place-keeps (Change d) at = detector-there (11 + limits.VEHICLE_DETECTORS + d) _ (omega (arith, at.1)) (keeps-change (clock s) row-detect s.detectors by-detect read-detect d at.0 at.1)
+  place-keeps (Extend d) at = detector-there (11 + 2 * limits.VEHICLE_DETECTORS + d) _ (omega (arith, at.1)) (keeps-extend (clock s) row-detect s.detectors by-detect read-detect d at.0 at.1)
   place-keeps (Interval p) at = phase-there (3 + p) _ (omega (arith, at.1)) (keeps-timer (clock s) row-phases s.phases by-phases read-phases p at.0 at.1)
   place-keeps (Pedestrian p) at = phase-there (19 + p) _ (omega (arith, at.1)) (keeps-pedestrian (clock s) row-phases s.phases by-phases read-phases p at.0 at.1)
   place-keeps (Passage p) at = phase-there (35 + p) _ (omega (arith, at.1)) (keeps-passage (clock s) row-phases s.phases by-phases read-phases p at.0 at.1)
@@ -258,8 +259,8 @@ module _ (s : State) (is : IsOfRun s) where
   place-keeps (Reduction p) at = phase-there (67 + p) _ (omega (arith, at.1)) (keeps-reduction (clock s) row-phases s.phases by-phases read-phases p at.0 at.1)
   place-keeps (RedRevert p) at = phase-there (83 + p) _ (omega (arith, at.1)) (keeps-red_revert (clock s) row-phases s.phases by-phases read-phases p at.0 at.1)
   place-keeps (Delay n) at = preempt-there (1 + n) _ (omega (arith, at.1)) (keeps-delay (clock s) row-preempts s.preempts by-preempts read-preempts n at.0 at.1)
-  place-keeps Served at = preempt-there 8 _ (omega arith) (keeps-served (clock s) row-preempts s.preempts by-preempts read-preempts)
-  place-keeps Track at = preempt-there 9 _ (omega arith) (keeps-tracked (clock s) row-preempts s.preempts by-preempts read-preempts)
+  place-keeps Served at = preempt-there (4 + limits.PREEMPTS) _ (omega arith) (keeps-served (clock s) row-preempts s.preempts by-preempts read-preempts)
+  place-keeps Track at = preempt-there (5 + limits.PREEMPTS) _ (omega arith) (keeps-tracked (clock s) row-preempts s.preempts by-preempts read-preempts)
 
 place-below : (w : Place) → IsPlace w → cell_of w < ALL_CELLS
 place-below (Change d) at = omega (arith, at.1)

@@ -14,9 +14,9 @@ use Rattle.tsb_objects.specs.tsb_plan.Two.{two}
 use Rattle.tsb_step.specs.declared.inputs.Input.TheVariants.{Pattern, Tick}
 use Rattle.tsb_step.specs.Runs.{AreTaken, replay}
 use Rattle.tsb_step.specs.Step.{verdict}
-use Rattle.tsb_text.specs.Answers.{Setup, display_line, next_tick}
+use Rattle.tsb_text.specs.Answers.{Setup, line_in, next_tick}
 use Rattle.tsb_text.specs.declared.faults.OnFault.TheVariants.{GoOn}
-use Rattle.tsb_types.specs.Sets.{all_off, set_of_list}
+use Rattle.tsb_types.specs.Sets.{all_off, set_of_detectors, set_of_list}
 use Rattle.tsb_types.specs.declared.row.Row.{Row}
 use Rattle.tsb_live_text.specs.Live.{Live, Says, begun, setup, with_inputs, with_row}
 
@@ -25,7 +25,7 @@ abbrev on_line : List ℕ
 on_line = codes "0100000000000000 00000000 0000"
 
 abbrev on : Row
-on = record { vehicles = set_of_list 2; pedestrians = set_of_list 0; preempts = set_of_list 0 }
+on = record { vehicles = set_of_detectors 2; pedestrians = set_of_list 0; preempts = set_of_list 0 }
 
 abbrev before : Live
 before = begun GoOn false two
@@ -39,7 +39,7 @@ is_read = refl
 
 -- it is answered by the display line after it
 abbrev line_after : List ℕ
-line_after = with_feed (display_line (replay two (Tick on ∷ []))) ++ []
+line_after = with_feed (line_in false (replay two (Tick on ∷ []))) ++ []
 
 row_was_said : Says before 1 on_line line_after On after
 unfolding live_reading inputs_of verdict two
@@ -57,7 +57,7 @@ row_was_read = ([], line_after, before, (refl, refl), row_was_said, refl)
 
 -- a log that has it at tick 1
 abbrev given : Setup
-given = record { plan = two; log = record { tick = 1; row = on } ∷ []; acts = false }
+given = record { plan = two; log = record { tick = 1; row = on } ∷ []; acts = false; is_wide = false }
 
 asks_a_step : AsksAsThere given before (live_reading on_line) (reading (codes "step 1"))
 unfolding live_reading inputs_of command_of_two

@@ -12,6 +12,7 @@ use Rattle.tsb_lines.proofs.DigitLemmas.{number-read, number-short}
 use Rattle.tsb_lines.proofs.LawLemmas.{at-end, at-space}
 use Rattle.tsb_lines.proofs.LineLemmas.{lines-joined}
 use Rattle.tsb_dialog.specs.Said.{with_feed}
+use Rattle.tsb_types.specs.declared.limits.TheConstants.{OVERLAPS}
 use Rattle.tsb_text.specs.tsb_step.tsb_plan.Names.{name_of, object_named}
 use Rattle.tsb_text.specs.tsb_step.tsb_plan.Versions.{has_object}
 use Rattle.tsb_text.specs.tsb_step.tsb_plan.declared.object.Object.{Object}
@@ -28,7 +29,7 @@ use Rattle.tsb_step.specs.declared.inputs.Input.{Input}
 use Rattle.tsb_step.specs.declared.inputs.Input.TheVariants.{Tick, Pattern, Switch, Fault, Reset, Begin, Set, Verify, Commit, Abort, Clock}
 use Rattle.tsb_command_text.specs.Commands.{command_in, command_of_one, command_of_two, command_of_three, command_of_five, preempt_of, set_of}
 use Rattle.tsb_command_text.specs.Lamps.{from_one_to, head_number, lamp_of, station_of, with_both}
-use Rattle.tsb_command_text.specs.Readings.{reading, reading_in}
+use Rattle.tsb_command_text.specs.Readings.{lines_in, lines_of_two, reading, reading_in}
 use Rattle.tsb_command_text.specs.declared.command.Command.{Command}
 use Rattle.tsb_command_text.specs.declared.command.Command.TheVariants as commands
 use Rattle.tsb_command_text.specs.declared.command.Reading.{Reading}
@@ -106,8 +107,9 @@ head-read most n h le =
 -- ## Lines
 
 -- a line of these words, which are a command
-line-read : (line : List ℕ) (ws : List (List ℕ)) (c : Command) → length line ≤ 200 → is_skipped line ≡ false → words_of line ≡ ws → command_in ws ≡ Some c → reading line ≡ Do c
-line-read line ws c short heeded words is = rw (le-ltb 200 (length line) short, heeded) (ap (λ (v : List (List ℕ)). reading_in (command_in v)) words ∙ ap reading_in is)
+line-read : (line : List ℕ) (ws : List (List ℕ)) (c : Command) → length line ≤ 200 → is_skipped line ≡ false → words_of line ≡ ws → lines_in ws ≡ None → command_in ws ≡ Some c → reading line ≡ Do c
+line-read line ws c short heeded words none is =
+    rw (le-ltb 200 (length line) short, heeded) (ap (λ (v : List (List ℕ)). reading_in (lines_in v) (command_in v)) words ∙ (λ j. reading_in (none j) (is j)))
 
 plain-feedless : (bytes : List ℕ) → are_plain bytes ≡ true → HasNoFeed bytes
 plain-feedless [] p = tt
@@ -133,43 +135,43 @@ one-line line rest c p is =
 
 -- ## Commands of two words
 
-number-line : (word : List ℕ) (n : ℕ) (c : Command) → length word ≤ 7 → n < 2 ^ 32 → IsWord word → is_skipped (word ++ 32 ∷ decimal n) ≡ false → command_of_two word (decimal n) ≡ Some c
+number-line : (word : List ℕ) (n : ℕ) (c : Command) → length word ≤ 7 → n < 2 ^ 32 → IsWord word → is_skipped (word ++ 32 ∷ decimal n) ≡ false → lines_of_two word (decimal n) ≡ None → command_of_two word (decimal n) ≡ Some c
     → reading (word ++ 32 ∷ decimal n) ≡ Do c
-number-line word n c short lt is heeded found =
+number-line word n c short lt is heeded none found =
     let digits : length (decimal n) ≤ 10 = number-short n lt in
     let all : length (word ++ 32 ∷ decimal n) ≡ length word + suc (length (decimal n)) = length-append word (32 ∷ decimal n) in
     line-read (word ++ 32 ∷ decimal n) (word ∷ decimal n ∷ []) c (omega (arith, digits, all, short)) heeded
-    (at-space word (decimal n) is ∙ ap (λ (ws : List (List ℕ)). word ∷ ws) (at-end (decimal n) (number-word n (omega (arith, lt))))) found
+    (at-space word (decimal n) is ∙ ap (λ (ws : List (List ℕ)). word ∷ ws) (at-end (decimal n) (number-word n (omega (arith, lt))))) none found
 
 step-read : (n : ℕ) → n < 2 ^ 32 → reading (codes "step " ++ decimal n) ≡ Do (commands.Step n)
-unfolding command_of_two
+unfolding command_of_two lines_of_two
 step-read n lt =
-    number-line (codes "step") n (commands.Step n) (omega arith) lt (word-of (codes "step") refl (omega arith)) refl (ap (option_map commands.Step) (number-read n lt))
+    number-line (codes "step") n (commands.Step n) (omega arith) lt (word-of (codes "step") refl (omega arith)) refl refl (ap (option_map commands.Step) (number-read n lt))
 
 pattern-read : (n : ℕ) → n < 2 ^ 32 → reading (codes "pattern " ++ decimal n) ≡ Do (commands.Pattern n)
-unfolding command_of_two
+unfolding command_of_two lines_of_two
 pattern-read n lt =
-    number-line (codes "pattern") n (commands.Pattern n) (omega arith) lt (word-of (codes "pattern") refl (omega arith)) refl (ap (option_map commands.Pattern) (number-read n lt))
+    number-line (codes "pattern") n (commands.Pattern n) (omega arith) lt (word-of (codes "pattern") refl (omega arith)) refl refl (ap (option_map commands.Pattern) (number-read n lt))
 
 begin-read : (n : ℕ) → IsUpTo 4 n → reading (codes "begin " ++ decimal n) ≡ Do (commands.Begin n)
-unfolding command_of_two
+unfolding command_of_two lines_of_two
 begin-read n h =
-    number-line (codes "begin") n (commands.Begin n) (omega arith) (omega (arith, h.1)) (word-of (codes "begin") refl (omega arith)) refl (ap (option_map commands.Begin) (station-read n h))
+    number-line (codes "begin") n (commands.Begin n) (omega arith) (omega (arith, h.1)) (word-of (codes "begin") refl (omega arith)) refl refl (ap (option_map commands.Begin) (station-read n h))
 
 verify-read : (n : ℕ) → IsUpTo 4 n → reading (codes "verify " ++ decimal n) ≡ Do (commands.Verify n)
-unfolding command_of_two
+unfolding command_of_two lines_of_two
 verify-read n h =
-    number-line (codes "verify") n (commands.Verify n) (omega arith) (omega (arith, h.1)) (word-of (codes "verify") refl (omega arith)) refl (ap (option_map commands.Verify) (station-read n h))
+    number-line (codes "verify") n (commands.Verify n) (omega arith) (omega (arith, h.1)) (word-of (codes "verify") refl (omega arith)) refl refl (ap (option_map commands.Verify) (station-read n h))
 
 commit-read : (n : ℕ) → IsUpTo 4 n → reading (codes "commit " ++ decimal n) ≡ Do (commands.Commit n)
-unfolding command_of_two
+unfolding command_of_two lines_of_two
 commit-read n h =
-    number-line (codes "commit") n (commands.Commit n) (omega arith) (omega (arith, h.1)) (word-of (codes "commit") refl (omega arith)) refl (ap (option_map commands.Commit) (station-read n h))
+    number-line (codes "commit") n (commands.Commit n) (omega arith) (omega (arith, h.1)) (word-of (codes "commit") refl (omega arith)) refl refl (ap (option_map commands.Commit) (station-read n h))
 
 abort-read : (n : ℕ) → IsUpTo 4 n → reading (codes "abort " ++ decimal n) ≡ Do (commands.Abort n)
-unfolding command_of_two
+unfolding command_of_two lines_of_two
 abort-read n h =
-    number-line (codes "abort") n (commands.Abort n) (omega arith) (omega (arith, h.1)) (word-of (codes "abort") refl (omega arith)) refl (ap (option_map commands.Abort) (station-read n h))
+    number-line (codes "abort") n (commands.Abort n) (omega arith) (omega (arith, h.1)) (word-of (codes "abort") refl (omega arith)) refl refl (ap (option_map commands.Abort) (station-read n h))
 
 -- ## Of three
 
@@ -181,7 +183,7 @@ three-line first second third c few more end is and_is last_is heeded found =
     let all : length (first ++ 32 ∷ (second ++ 32 ∷ third)) ≡ length first + suc (length (second ++ 32 ∷ third)) = length-append first (32 ∷ (second ++ 32 ∷ third)) in
     line-read (first ++ 32 ∷ (second ++ 32 ∷ third)) (first ∷ second ∷ third ∷ []) c (omega (arith, tail, all, few, more, end)) heeded
     (at-space first (second ++ 32 ∷ third) is
-    ∙ ap (λ (ws : List (List ℕ)). first ∷ ws) (at-space second third and_is ∙ ap (λ (ws : List (List ℕ)). second ∷ ws) (at-end third last_is))) found
+    ∙ ap (λ (ws : List (List ℕ)). first ∷ ws) (at-space second third and_is ∙ ap (λ (ws : List (List ℕ)). second ∷ ws) (at-end third last_is))) refl found
 
 switch-read : (n : ℕ) (on : Bool) → n < 2 ^ 32 → reading (codes "preempt " ++ (decimal n ++ switch_word on)) ≡ Do (commands.Preempt n on)
 unfolding command_of_three
@@ -211,13 +213,13 @@ phase-lamp p signals.Yellow h = head-line 80 p 89 (lamps.Phase p signals.Yellow)
 phase-lamp p signals.Red h = head-line 80 p 82 (lamps.Phase p signals.Red) (omega (arith, h.1)) (λ e. omega (arith, e)) (λ e. omega (arith, e))
     (ap (λ (o : Option ℕ). with_both lamps.Phase o (Some signals.Red)) (head-read 16 p h (omega arith)))
 
-overlap-lamp : (p : ℕ) (color : SignalColor) → IsUpTo 4 p → reading (codes "fault O" ++ (decimal p ++ signal_word color)) ≡ Do (commands.Fault (Some (lamps.Overlap p color)))
+overlap-lamp : (p : ℕ) (color : SignalColor) → IsUpTo OVERLAPS p → reading (codes "fault O" ++ (decimal p ++ signal_word color)) ≡ Do (commands.Fault (Some (lamps.Overlap p color)))
 overlap-lamp p signals.Green h = head-line 79 p 71 (lamps.Overlap p signals.Green) (omega (arith, h.1)) (λ e. omega (arith, e)) (λ e. omega (arith, e))
-    (ap (λ (o : Option ℕ). with_both lamps.Overlap o (Some signals.Green)) (head-read 4 p h (omega arith)))
+    (ap (λ (o : Option ℕ). with_both lamps.Overlap o (Some signals.Green)) (head-read OVERLAPS p h (omega arith)))
 overlap-lamp p signals.Yellow h = head-line 79 p 89 (lamps.Overlap p signals.Yellow) (omega (arith, h.1)) (λ e. omega (arith, e)) (λ e. omega (arith, e))
-    (ap (λ (o : Option ℕ). with_both lamps.Overlap o (Some signals.Yellow)) (head-read 4 p h (omega arith)))
+    (ap (λ (o : Option ℕ). with_both lamps.Overlap o (Some signals.Yellow)) (head-read OVERLAPS p h (omega arith)))
 overlap-lamp p signals.Red h = head-line 79 p 82 (lamps.Overlap p signals.Red) (omega (arith, h.1)) (λ e. omega (arith, e)) (λ e. omega (arith, e))
-    (ap (λ (o : Option ℕ). with_both lamps.Overlap o (Some signals.Red)) (head-read 4 p h (omega arith)))
+    (ap (λ (o : Option ℕ). with_both lamps.Overlap o (Some signals.Red)) (head-read OVERLAPS p h (omega arith)))
 
 pedestrian-lamp : (p : ℕ) (color : PedestrianColor) → IsUpTo 16 p → reading (codes "fault W" ++ (decimal p ++ pedestrian_word color)) ≡ Do (commands.Fault (Some (lamps.Pedestrian p color)))
 pedestrian-lamp p pedestrians.Walk h = head-line 87 p 87 (lamps.Pedestrian p pedestrians.Walk) (omega (arith, h.1)) (λ e. omega (arith, e)) (λ e. omega (arith, e))
@@ -273,6 +275,7 @@ set-read s id v h index value =
     (set-short (decimal s) (name_of id.object) (decimal id.index) (decimal v) (number-short s (omega (arith, h.1))) (short-name id.object) (number-short id.index index) (number-short v value))
     refl
     (set-words (decimal s) (name_of id.object) (decimal id.index) (decimal v) (number-word s (omega (arith, h.1))) (name-word id.object) (number-word id.index (omega (arith, index))) (number-word v (omega (arith, value))))
+    refl
     (λ j. set_of (station-read s h j) (name-found id.object j) (number-read id.index index j) (number-read v value j))
 
 -- ## Which are plain
@@ -331,7 +334,7 @@ step-plain n lt = behind (codes "step ") n refl lt
 -- ## All of them
 
 input-read : (i : Input) (rest : List ℕ) → IsSpelled i → map reading (lines_of (input_text i ++ rest)) ≡ map Do (command_of i) ++ map reading (lines_of rest)
-unfolding command_of_one command_of_two
+unfolding command_of_one command_of_two lines_of_two
 input-read (Tick row) rest h = refl
 input-read (Pattern n) rest h = one-line (input_line (Pattern n)) rest (commands.Pattern n) (input-plain (Pattern n) h) (pattern-read n h)
 input-read (Switch n on) rest h = one-line (input_line (Switch n on)) rest (commands.Preempt n on) (input-plain (Switch n on) h) (switch-read n on h)

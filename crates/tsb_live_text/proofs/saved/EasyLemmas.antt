@@ -8,7 +8,11 @@ use Rattle.tsb_lines.specs.Lines.{HasNoFeed}
 use Rattle.tsb_dialog.specs.Said.{with_feed}
 use Rattle.tsb_step.specs.declared.inputs.Input.{Input}
 use Rattle.tsb_step.specs.declared.inputs.Input.TheVariants.{Tick}
+use Rattle.tsb_log_text.specs.Forms.{form_for}
+use Rattle.tsb_log_text.specs.ListText.{lists_line, lists_text, text_in}
 use Rattle.tsb_log_text.specs.LogText.{log_text, row_line}
+use Rattle.tsb_log_text.specs.declared.form.RowForm.{RowForm}
+use Rattle.tsb_log_text.specs.declared.form.RowForm.TheVariants.{Digits, Lists}
 use Rattle.tsb_log_text.specs.declared.log.LogRow.{LogRow}
 use Rattle.tsb_text.specs.declared.kept.Other.{Other}
 use Rattle.tsb_live_text.specs.saved.Laws.{AreEasy, AreSpelled, IsSpelled, is_easy}
@@ -31,10 +35,12 @@ plain-easy (x ∷ xs) p =
 line-easy : (line : List ℕ) → are_plain line ≡ true → list_all is_easy (with_feed line) ≡ true
 line-easy line p = easy-join line (10 ∷ []) (plain-easy line p) refl
 
-log-easy : (rows : List LogRow) → list_all is_easy (log_text rows) ≡ true
-unfolding log_text
-log-easy [] = refl
-log-easy (r ∷ rs) = easy-join (row_line r) (10 ∷ log_text rs) (plain-easy (row_line r) (row-plain r)) (log-easy rs)
+log-easy : (form : RowForm) (rows : List LogRow) → list_all is_easy (text_in form rows) ≡ true
+unfolding log_text lists_text
+log-easy Digits [] = refl
+log-easy Lists [] = refl
+log-easy Digits (r ∷ rs) = easy-join (row_line r) (10 ∷ log_text rs) (plain-easy (row_line r) (row-plain Digits r)) (log-easy Digits rs)
+log-easy Lists (r ∷ rs) = easy-join (lists_line r) (10 ∷ lists_text rs) (plain-easy (lists_line r) (row-plain Lists r)) (log-easy Lists rs)
 
 input-easy : (i : Input) → IsSpelled i → list_all is_easy (input_text i) ≡ true
 input-easy (Tick row) h = refl
@@ -83,13 +89,14 @@ feedless (b ∷ bs) p =
 
 pub easy : AreEasy
 easy kept now lt h =
-    let log : list_all is_easy (log_text kept.rows) ≡ true = log-easy kept.rows in
+    let text : List ℕ = text_in (form_for kept.rows) kept.rows in
+    let log : list_all is_easy text ≡ true = log-easy (form_for kept.rows) kept.rows in
     let commands : list_all is_easy (commands_text kept now) ≡ true = commands-easy now kept.others 0 lt h in (
       log,
       commands,
       subst HasNoFeed (sym (saved-bytes kept now)) (
-          feedless-both (codes "{\"log\":\"") (escape (log_text kept.rows) ++ (codes "\",\"commands\":\"" ++ (escape (commands_text kept now) ++ codes "\"}"))) (feedless (codes "{\"log\":\"") refl)
-          (feedless-both (escape (log_text kept.rows)) (codes "\",\"commands\":\"" ++ (escape (commands_text kept now) ++ codes "\"}")) (escape-feedless (log_text kept.rows) log)
+          feedless-both (codes "{\"log\":\"") (escape text ++ (codes "\",\"commands\":\"" ++ (escape (commands_text kept now) ++ codes "\"}"))) (feedless (codes "{\"log\":\"") refl)
+          (feedless-both (escape text) (codes "\",\"commands\":\"" ++ (escape (commands_text kept now) ++ codes "\"}")) (escape-feedless text log)
           (feedless-both (codes "\",\"commands\":\"") (escape (commands_text kept now) ++ codes "\"}") (feedless (codes "\",\"commands\":\"") refl)
           (feedless-both (escape (commands_text kept now)) (codes "\"}") (escape-feedless (commands_text kept now) commands) (feedless (codes "\"}") refl))))
           ),

@@ -1,13 +1,18 @@
 -- Plain bytes need no escape in a string of JSON.
-use Rattle.std.proofs.Common.{◌≡◌, ◌∙◌, ℕ, ◌+◌, ◌/◌, ◌%◌, ◌<◌, ◌≤◌, ◌^◌, ◌&&◌, Bool, true, false, not, eqb, leb, zero, suc, List, [], ◌∷◌, ◌++◌, decimal, refl, sym, ap, arith, inl, inr, rules}
+use Rattle.std.proofs.Common.{◌≡◌, ◌∙◌, ℕ, ◌+◌, ◌/◌, ◌%◌, ◌<◌, ◌≤◌, ◌^◌, ◌&&◌, ◌==◌, if◌then◌else◌, Bool, true, false, not, eqb, leb, zero, suc, List, [], ◌∷◌, ◌++◌, codes, decimal, refl, sym, ap, arith, inl, inr, rules}
 use Rattle.std.proofs.lemmas.Bool.{and_from, and_parts, le-leb, leb-true, le-ltb, not-true, ne_eqb, true≢false}
 use Rattle.std.proofs.lemmas.Bool.Decides.{eqb_tells}
 use Rattle.std.proofs.lemmas.Fmt.{decimal_by_steps}
 use Rattle.std.proofs.lemmas.List.Folds.{list_all-append}
 use Rattle.json.specs.Print.{escape, escape_byte}
 use Rattle.tsb_lines.specs.Digits.{seven_digits}
-use Rattle.tsb_text.specs.tsb_types.Sets.{has_number}
-use Rattle.tsb_log_text.specs.LogText.{mark, marks, row_line, set_marks}
+use Rattle.tsb_text.specs.tsb_types.Sets.{has_detector, has_number}
+use Rattle.tsb_text.specs.tsb_types.declared.limits.TheConstants.{PEDESTRIAN_DETECTORS, PREEMPTS, VEHICLE_DETECTORS}
+use Rattle.tsb_text.specs.tsb_types.declared.number_set.NumberSet.{NumberSet}
+use Rattle.tsb_log_text.specs.ListText.{item_text, items_behind, kind_text, later_items, line_in, lists_line, onto_runs, runs_from}
+use Rattle.tsb_log_text.specs.LogText.{first_detectors, mark, marks, row_line, set_marks}
+use Rattle.tsb_log_text.specs.declared.form.RowForm.{RowForm}
+use Rattle.tsb_log_text.specs.declared.form.RowForm.TheVariants.{Digits, Lists}
 use Rattle.tsb_log_text.specs.declared.log.LogRow.{LogRow}
 use Rattle.tsb_text.specs.tsb_step.tsb_plan.Names.{name_of}
 use Rattle.tsb_text.specs.tsb_step.tsb_plan.declared.object.Object.{Object}
@@ -82,12 +87,70 @@ marks-plain (suc n) on = and_from (is_plain (mark (on 0))) (are_plain (marks n (
 space : (xs ys : List ℕ) → are_plain xs ≡ true → are_plain ys ≡ true → are_plain (xs ++ 32 ∷ ys) ≡ true
 space xs ys p q = plain-join xs (32 ∷ ys) p q
 
-pub row-plain : (r : LogRow) → are_plain (row_line r) ≡ true
+digits-plain : (r : LogRow) → are_plain (row_line r) ≡ true
 unfolding row_line
-row-plain r =
-    space (seven_digits r.tick) (set_marks 16 r.row.vehicles ++ 32 ∷ (set_marks 8 r.row.pedestrians ++ 32 ∷ set_marks 4 r.row.preempts)) (tick-plain r.tick)
-    (space (set_marks 16 r.row.vehicles) (set_marks 8 r.row.pedestrians ++ 32 ∷ set_marks 4 r.row.preempts) (marks-plain 16 (λ k. has_number r.row.vehicles (suc k)))
+digits-plain r =
+    let vehicles : NumberSet = first_detectors r.row.vehicles in
+    space (seven_digits r.tick) (set_marks 16 vehicles ++ 32 ∷ (set_marks 8 r.row.pedestrians ++ 32 ∷ set_marks 4 r.row.preempts)) (tick-plain r.tick)
+    (space (set_marks 16 vehicles) (set_marks 8 r.row.pedestrians ++ 32 ∷ set_marks 4 r.row.preempts) (marks-plain 16 (λ k. has_number vehicles (suc k)))
     (space (set_marks 8 r.row.pedestrians) (set_marks 4 r.row.preempts) (marks-plain 8 (λ k. has_number r.row.pedestrians (suc k))) (marks-plain 4 (λ k. has_number r.row.preempts (suc k)))))
+
+-- both ends of each run are numbers that fit
+abbrev AreSmall : List (ℕ × ℕ) → Type 0
+AreSmall [] = Unit {0}
+AreSmall (r ∷ rs) = (r.0 < 2 ^ 64) × (r.1 < 2 ^ 64) × AreSmall rs
+
+onto-small : (n : ℕ) (rs : List (ℕ × ℕ)) → n < 2 ^ 64 → AreSmall rs → AreSmall (onto_runs n rs)
+onto-small n [] small h = (small, small, tt)
+onto-small n (r ∷ rs) small h = go (r.0 == n + 1)
+  where
+    go : (b : Bool) → AreSmall (if b then (n, r.1) ∷ rs else (n, n) ∷ r ∷ rs)
+    go true = (small, h.1, h.2)
+    go false = (small, small, h)
+
+runs-small : (n left : ℕ) (on : ℕ → Bool) → n + left ≤ 1000 → AreSmall (runs_from n left on)
+runs-small n zero on le = tt
+runs-small n (suc left) on le = go (on n) (runs-small (n + 1) left on (omega (arith, le)))
+  where
+    go : (b : Bool) → AreSmall (runs_from (n + 1) left on) → AreSmall (if b then onto_runs n (runs_from (n + 1) left on) else runs_from (n + 1) left on)
+    go true rest = onto-small n (runs_from (n + 1) left on) (omega (arith, le)) rest
+    go false rest = rest
+
+item-plain : (r : ℕ × ℕ) → r.0 < 2 ^ 64 → r.1 < 2 ^ 64 → are_plain (item_text r) ≡ true
+item-plain r first last = go (r.0 == r.1)
+  where
+    go : (b : Bool) → are_plain (if b then decimal r.0 else decimal r.0 ++ codes "-" ++ decimal r.1) ≡ true
+    go true = number-plain r.0 first
+    go false = plain-join (decimal r.0 ++ codes "-") (decimal r.1) (plain-join (decimal r.0) (codes "-") (number-plain r.0 first) refl) (number-plain r.1 last)
+
+later-plain : (rs : List (ℕ × ℕ)) → AreSmall rs → are_plain (later_items rs) ≡ true
+later-plain [] h = refl
+later-plain (r ∷ rs) h =
+    plain-join (codes "," ++ item_text r) (later_items rs) (plain-join (codes ",") (item_text r) refl (item-plain r h.0 h.1)) (later-plain rs h.2)
+
+behind-plain : (before : List ℕ) (rs : List (ℕ × ℕ)) → are_plain before ≡ true → AreSmall rs → are_plain (items_behind before rs) ≡ true
+behind-plain before [] plain h = refl
+behind-plain before (r ∷ rs) plain h =
+    plain-join (before ++ item_text r) (later_items rs) (plain-join before (item_text r) plain (item-plain r h.0 h.1)) (later-plain rs h.2)
+
+kind-plain : (before : List ℕ) (most : ℕ) (on : ℕ → Bool) → are_plain before ≡ true → most ≤ 64 → are_plain (kind_text before most on) ≡ true
+kind-plain before most on plain le = behind-plain before (runs_from 1 most on) plain (runs-small 1 most on (omega (arith, le)))
+
+lists-plain : (r : LogRow) → are_plain (lists_line r) ≡ true
+unfolding lists_line
+lists-plain r =
+    let vehicles : List ℕ = kind_text (codes " V") VEHICLE_DETECTORS (has_detector r.row.vehicles) in
+    let pedestrians : List ℕ = kind_text (codes " P") PEDESTRIAN_DETECTORS (has_number r.row.pedestrians) in
+    let preempts : List ℕ = kind_text (codes " E") PREEMPTS (has_number r.row.preempts) in
+    plain-join (seven_digits r.tick) (vehicles ++ (pedestrians ++ preempts)) (tick-plain r.tick)
+    (plain-join vehicles (pedestrians ++ preempts) (kind-plain (codes " V") VEHICLE_DETECTORS (has_detector r.row.vehicles) refl (omega arith))
+    (plain-join pedestrians preempts (kind-plain (codes " P") PEDESTRIAN_DETECTORS (has_number r.row.pedestrians) refl (omega arith))
+    (kind-plain (codes " E") PREEMPTS (has_number r.row.preempts) refl (omega arith))))
+
+-- in either form
+pub row-plain : (form : RowForm) (r : LogRow) → are_plain (line_in form r) ≡ true
+row-plain Digits r = digits-plain r
+row-plain Lists r = lists-plain r
 
 -- ## They need no escape
 

@@ -5,6 +5,10 @@ use Rattle.std.proofs.lemmas.List.Elements.{All-head, All-tail}
 use Rattle.tsb_lines.specs.Lines.{is_skipped}
 use Rattle.tsb_lines.specs.Words.{at_most, number_from, number_of, words_of}
 use Rattle.tsb_text.specs.tsb_types.declared.lamp.Lamp.TheVariants as lamps
+use Rattle.tsb_text.specs.tsb_types.declared.limits.TheConstants.{OVERLAPS, PEDESTRIAN_DETECTORS, PREEMPTS, VEHICLE_DETECTORS}
+use Rattle.tsb_text.specs.tsb_types.declared.row.Row.{Row}
+use Rattle.tsb_text.specs.tsb_types.Lists.{among}
+use Rattle.tsb_types.proofs.SetLemmas.{list_of-below}
 use Rattle.tsb_text.specs.tsb_step.tsb_plan.Names.{object_named}
 use Rattle.tsb_text.specs.tsb_step.tsb_plan.declared.object.Object.{Object}
 use Rattle.tsb_text.specs.tsb_step.tsb_plan.declared.version.TheConstants.Version.{NEWEST}
@@ -14,12 +18,13 @@ use Rattle.tsb_step.specs.Runs.{replay}
 use Rattle.tsb_step.proofs.ClearLemmas.{one_later}
 use Rattle.tsb_command_text.specs.Commands.{command_in, command_of_one, command_of_two, command_of_three, command_of_five, on_or_off, preempt_of, set_of, watch_of_one, watch_of_two}
 use Rattle.tsb_command_text.specs.Lamps.{from_one_to, head_number, lamp_of, pedestrian_signal_of, signal_of, station_of, with_both}
-use Rattle.tsb_command_text.specs.Readings.{reading, reading_in}
+use Rattle.tsb_command_text.specs.Readings.{lines_in, reading, reading_in}
 use Rattle.tsb_command_text.specs.declared.command.Command.{Command}
 use Rattle.tsb_command_text.specs.declared.command.Command.TheVariants as commands
 use Rattle.tsb_command_text.specs.declared.command.Reading.{Reading}
 use Rattle.tsb_command_text.specs.declared.command.Reading.TheVariants.{Bad, Skip, Do}
-use Rattle.tsb_log_text.specs.LogText.{IsFit}
+use Rattle.tsb_log_text.specs.Forms.{row_or_other}
+use Rattle.tsb_log_text.specs.RowLists.{after_pedestrians, after_vehicles, is_of, list_before, list_of_numbers, lists_of, numbers_from, own_list, parts, row_of_three}
 use Rattle.tsb_log_text.specs.Rows.{field, has_space, inputs_of, inputs_with, list_in_digits, onto_digits}
 use Rattle.tsb_text.specs.declared.kept.Other.{Other}
 use Rattle.tsb_text.specs.kept.Kept.{kept_of}
@@ -27,7 +32,7 @@ use Rattle.tsb_text.proofs.BackLemmas.{no-less}
 use Rattle.tsb_types.specs.declared.clock_time.TheConstants.{FIRST_MOMENT, END_OF_DAYS}
 use Rattle.tsb_command_text.specs.clock.ClockText.{clock_of}
 use Rattle.tsb_command_text.proofs.clock.ReadLemmas.{clock-ranged}
-use Rattle.tsb_live_text.specs.saved.Laws.{AreSpelled, IsFault, IsLamp, IsSpelled, IsUpTo, KeptAreSpelled, ReadsAreSpelled, RowsReadAreFit, command_of}
+use Rattle.tsb_live_text.specs.saved.Laws.{AreSpelled, FitsLog, IsFault, IsLamp, IsSpelled, IsUpTo, KeptAreSpelled, ReadsAreSpelled, RowsReadAreFit, command_of}
 
 -- what holds of it, if there is any
 abbrev OfAny : {A : Type 0} → (A → Type 0) → Option A → Type 0
@@ -115,7 +120,7 @@ lamp-fits : (head aspect : List ℕ) → OfAny IsLamp (lamp_of head aspect)
 lamp-fits [] aspect = tt
 lamp-fits (letter ∷ digits) aspect =
     of-if IsLamp (letter == 80) _ _ (both-fit (IsUpTo 16) IsLamp lamps.Phase (from_one_to 16 (head_number digits)) (signal_of aspect) (up-to-fits 16 (head_number digits)) (λ x y h. h))
-    (of-if IsLamp (letter == 79) _ _ (both-fit (IsUpTo 4) IsLamp lamps.Overlap (from_one_to 4 (head_number digits)) (signal_of aspect) (up-to-fits 4 (head_number digits)) (λ x y h. h))
+    (of-if IsLamp (letter == 79) _ _ (both-fit (IsUpTo OVERLAPS) IsLamp lamps.Overlap (from_one_to OVERLAPS (head_number digits)) (signal_of aspect) (up-to-fits OVERLAPS (head_number digits)) (λ x y h. h))
     (of-if IsLamp (letter == 87) _ _ (both-fit (IsUpTo 16) IsLamp lamps.Pedestrian (from_one_to 16 (head_number digits)) (pedestrian_signal_of aspect) (up-to-fits 16 (head_number digits)) (λ x y h. h)) tt))
 
 preempt-fits : (n : Option ℕ) (on : Option Bool) → OfAny (λ n. n < 2 ^ 32) n → OfAny IsSound (preempt_of n on)
@@ -164,13 +169,14 @@ IsSoundReading (Do c) = IsSound c
 IsSoundReading r = Unit {0}
 
 reading-sound : (line : List ℕ) → IsSoundReading (reading line)
-reading-sound line = go (nat_lt 200 (length line)) (is_skipped line) (command_in (words_of line)) (words-sound (words_of line))
+reading-sound line = go (nat_lt 200 (length line)) (is_skipped line) (lines_in (words_of line)) (command_in (words_of line)) (words-sound (words_of line))
   where
-    go : (long skipped : Bool) (o : Option Command) → OfAny IsSound o → IsSoundReading (if long then Bad else if skipped then Skip else reading_in o)
-    go true skipped o h = tt
-    go false true o h = tt
-    go false false None h = tt
-    go false false (Some c) h = h
+    go : (long skipped : Bool) (is_wide : Option Bool) (o : Option Command) → OfAny IsSound o → IsSoundReading (if long then Bad else if skipped then Skip else reading_in is_wide o)
+    go true skipped is_wide o h = tt
+    go false true is_wide o h = tt
+    go false false (Some is_wide) o h = tt
+    go false false None None h = tt
+    go false false None (Some c) h = h
 
 abbrev IsFirstSound : List Command → Type 0
 IsFirstSound [] = Unit {0}
@@ -210,21 +216,57 @@ take-short zero xs = omega arith
 take-short (suc n) [] = omega arith
 take-short (suc n) (x ∷ xs) = let rest : length (take n xs) ≤ n = take-short n xs in omega (arith, rest)
 
-inputs-fit : (v p e : Option ℕ) → OfAny (λ k. k < 65536) v → OfAny (λ k. k < 256) p → OfAny (λ k. k < 16) e → OfAny IsFit (inputs_with v p e)
+inputs-fit : (v p e : Option ℕ) → OfAny (λ k. k < 65536) v → OfAny (λ k. k < 256) p → OfAny (λ k. k < 16) e → OfAny FitsLog (inputs_with v p e)
 inputs-fit (Some v) (Some p) (Some e) hv hp he = record { vehicles = omega (arith, hv); pedestrians = omega (arith, hp); preempts = omega (arith, he) }
 inputs-fit (Some v) (Some p) None hv hp he = tt
 inputs-fit (Some v) None e hv hp he = tt
 inputs-fit None p e hv hp he = tt
 
-row-fits : (digits : List ℕ) → OfAny IsFit (inputs_of digits)
+digits-fit : (digits : List ℕ) → OfAny FitsLog (inputs_of digits)
 unfolding inputs_of
-row-fits digits =
-    of-if IsFit (length digits == 30 && has_space 16 digits && has_space 25 digits) _ _
+digits-fit digits =
+    of-if FitsLog (length digits == 30 && has_space 16 digits && has_space 25 digits) _ _
     (inputs-fit (list_in_digits (field 0 16 digits)) (list_in_digits (field 17 8 digits)) (list_in_digits (field 26 4 digits))
     (list-fits 16 (field 0 16 digits) (take-short 16 (drop 0 digits))) (list-fits 8 (field 17 8 digits) (take-short 8 (drop 17 digits))) (list-fits 4 (field 26 4 digits) (take-short 4 (drop 26 digits)))) tt
 
+-- by lists
+
+-- a list with what is left of the words
+abbrev IsBelow : ℕ → ℕ × List (List ℕ) → Type 0
+IsBelow most taken = taken.0 < 2 ^ most
+
+spelled-below : (most : ℕ) (ns : Option (List ℕ)) (words : List (List ℕ)) → OfAny (IsBelow most) (list_before (list_of_numbers most ns) words)
+spelled-below most None words = tt
+spelled-below most (Some ns) words = list_of-below most (λ n. among n ns)
+
+own-below : (letter most : ℕ) (words : List (List ℕ)) → 0 < 2 ^ most → OfAny (IsBelow most) (own_list letter most words)
+own-below letter most [] some = some
+own-below letter most (w ∷ ws) some =
+    of-if (IsBelow most) (is_of letter w) _ _ (spelled-below most (numbers_from most 0 (parts 44 (drop 1 w))) ws) some
+
+preempts-fit : (v p : ℕ) (taken : Option (ℕ × List (List ℕ))) → v < 2 ^ VEHICLE_DETECTORS → p < 2 ^ PEDESTRIAN_DETECTORS → OfAny (IsBelow PREEMPTS) taken → OfAny FitsLog (row_of_three v p taken)
+preempts-fit v p None hv hp he = tt
+preempts-fit v p (Some (e, [])) hv hp he = record { vehicles = hv; pedestrians = hp; preempts = he }
+preempts-fit v p (Some (e, w ∷ ws)) hv hp he = tt
+
+pedestrians-fit : (v : ℕ) (taken : Option (ℕ × List (List ℕ))) → v < 2 ^ VEHICLE_DETECTORS → OfAny (IsBelow PEDESTRIAN_DETECTORS) taken → OfAny FitsLog (after_pedestrians v taken)
+pedestrians-fit v None hv hp = tt
+pedestrians-fit v (Some (p, words)) hv hp = preempts-fit v p (own_list 69 PREEMPTS words) hv hp (own-below 69 PREEMPTS words (omega arith))
+
+vehicles-fit : (taken : Option (ℕ × List (List ℕ))) → OfAny (IsBelow VEHICLE_DETECTORS) taken → OfAny FitsLog (after_vehicles taken)
+vehicles-fit None hv = tt
+vehicles-fit (Some (v, words)) hv = pedestrians-fit v (own_list 80 PEDESTRIAN_DETECTORS words) hv (own-below 80 PEDESTRIAN_DETECTORS words (omega arith))
+
+lists-fit : (text : List ℕ) → OfAny FitsLog (lists_of text)
+unfolding lists_of
+lists-fit text = vehicles-fit (own_list 86 VEHICLE_DETECTORS (parts 32 text)) (own-below 86 VEHICLE_DETECTORS (parts 32 text) (omega arith))
+
+either-fits : (row other : Option Row) → OfAny FitsLog row → OfAny FitsLog other → OfAny FitsLog (row_or_other row other)
+either-fits None other h k = k
+either-fits (Some row) other h k = h
+
 pub rows-fit : RowsReadAreFit
-rows-fit digits row is = subst (OfAny IsFit) is (row-fits digits)
+rows-fit line row is = subst (OfAny FitsLog) is (either-fits (inputs_of line) (lists_of line) (digits-fit line) (lists-fit line))
 
 -- ## What is kept
 

@@ -1,5 +1,5 @@
 -- The line of what is saved, a part after another.
-use Rattle.std.proofs.Common.{zero, suc, ◌≡◌, ◌∙◌, ℕ, ◌+◌, ◌-◌, ◌<◌, ◌≤◌, List, [], ◌∷◌, ◌++◌, codes, length, drop, get_or, take, refl, sym, ap, subst, arith, append_assoc, true, Err, OnOk}
+use Rattle.std.proofs.Common.{zero, suc, ◌≡◌, ◌∙◌, ℕ, ◌+◌, ◌-◌, ◌<◌, ◌≤◌, List, [], ◌∷◌, ◌++◌, codes, length, length-append, drop, get_or, take, refl, sym, ap, subst, arith, append_assoc, true, Err, OnOk}
 use Rattle.std.specs.declared.option.Option.{Option}
 use Rattle.std.specs.declared.result.Result.{Result}
 use Rattle.tsb_lines.specs.declared.writes.WriteError.{WriteError}
@@ -7,8 +7,13 @@ use Rattle.std.proofs.lemmas.List.{drop_more}
 use Rattle.std.proofs.lemmas.List.Concat.{flat_map-append}
 use Rattle.json.specs.Print.{escape, escape_byte, print_from}
 use Rattle.tsb_dialog.specs.Said.{Said, Wrote, with_feed}
-use Rattle.tsb_log_text.specs.LogText.{log_text, row_line}
+use Rattle.tsb_log_text.specs.Forms.{form_for}
+use Rattle.tsb_log_text.specs.ListText.{line_in, lists_text, text_in}
+use Rattle.tsb_log_text.specs.LogText.{log_text}
+use Rattle.tsb_log_text.specs.declared.form.RowForm.{RowForm}
+use Rattle.tsb_log_text.specs.declared.form.RowForm.TheVariants.{Digits, Lists}
 use Rattle.tsb_log_text.specs.declared.log.LogRow.{LogRow}
+use Rattle.tsb_log_text.proofs.WrittenLemmas.{none-in}
 use Rattle.tsb_text.specs.declared.kept.Other.{Other}
 use Rattle.tsb_text.specs.kept.Kept.{Keeping}
 use Rattle.tsb_live_text.specs.saved.Saved.{commands_from, commands_text, input_text, saved_text, step_text}
@@ -23,17 +28,17 @@ shape : (x y : List ℕ) → codes "{\"log\":" ++ ((34 ∷ (x ++ 34 ∷ [])) ++ 
 shape x y = simp append_assoc
 
 pub saved-bytes : (kept : Keeping) (now : ℕ) → saved_text kept now
-    ≡ codes "{\"log\":\"" ++ (escape (log_text kept.rows) ++ (codes "\",\"commands\":\"" ++ (escape (commands_text kept now) ++ codes "\"}")))
+    ≡ codes "{\"log\":\"" ++ (escape (text_in (form_for kept.rows) kept.rows) ++ (codes "\",\"commands\":\"" ++ (escape (commands_text kept now) ++ codes "\"}")))
 unfolding saved_text print_from escape_byte
-saved-bytes kept now = shape (escape (log_text kept.rows)) (escape (commands_text kept now))
+saved-bytes kept now = shape (escape (text_in (form_for kept.rows) kept.rows)) (escape (commands_text kept now))
 
 shape-feed : (x y : List ℕ) → (codes "{\"log\":\"" ++ (x ++ (codes "\",\"commands\":\"" ++ (y ++ codes "\"}")))) ++ 10 ∷ []
     ≡ codes "{\"log\":\"" ++ (x ++ (codes "\",\"commands\":\"" ++ (y ++ codes "\"}\n")))
 shape-feed x y = simp append_assoc
 
 pub saved-line : (kept : Keeping) (now : ℕ) → with_feed (saved_text kept now)
-    ≡ codes "{\"log\":\"" ++ (escape (log_text kept.rows) ++ (codes "\",\"commands\":\"" ++ (escape (commands_text kept now) ++ codes "\"}\n")))
-saved-line kept now = ap with_feed (saved-bytes kept now) ∙ shape-feed (escape (log_text kept.rows)) (escape (commands_text kept now))
+    ≡ codes "{\"log\":\"" ++ (escape (text_in (form_for kept.rows) kept.rows) ++ (codes "\",\"commands\":\"" ++ (escape (commands_text kept now) ++ codes "\"}\n")))
+saved-line kept now = ap with_feed (saved-bytes kept now) ∙ shape-feed (escape (text_in (form_for kept.rows) kept.rows)) (escape (commands_text kept now))
 
 -- ## A line within
 
@@ -49,13 +54,21 @@ line-escape line p = sym (escape-join line (10 ∷ []) ∙ ap (λ (v : List ℕ)
 
 -- ## Rows
 
-rows-first : (r : LogRow) (rs : List LogRow) → escape (log_text (r ∷ rs)) ≡ escape (with_feed (row_line r)) ++ escape (log_text rs)
-unfolding log_text
-rows-first r rs = ap escape (sym (append_assoc (row_line r) (10 ∷ []) (log_text rs))) ∙ escape-join (with_feed (row_line r)) (log_text rs)
+text-first : (form : RowForm) (r : LogRow) (rs : List LogRow) → text_in form (r ∷ rs) ≡ line_in form r ++ 10 ∷ text_in form rs
+unfolding log_text lists_text
+text-first Digits r rs = refl
+text-first Lists r rs = refl
 
-pub rows-turn : (rows : List LogRow) (i : ℕ) (d : LogRow) → i < length rows
-    → escape (log_text (drop i rows)) ≡ escape (with_feed (row_line (get_or rows i d))) ++ escape (log_text (drop (i + 1) rows))
-rows-turn rows i d lt = ap (λ (v : List LogRow). escape (log_text v)) (drop_more rows i d lt) ∙ rows-first (get_or rows i d) (drop (i + 1) rows)
+rows-first : (form : RowForm) (r : LogRow) (rs : List LogRow) → escape (text_in form (r ∷ rs)) ≡ escape (with_feed (line_in form r)) ++ escape (text_in form rs)
+rows-first form r rs =
+    ap escape (text-first form r rs ∙ sym (append_assoc (line_in form r) (10 ∷ []) (text_in form rs))) ∙ escape-join (with_feed (line_in form r)) (text_in form rs)
+
+pub rows-turn : (rows : List LogRow) (form : RowForm) (i : ℕ) (d : LogRow) → form ≡ form_for rows → i < length rows
+    → escape (text_in (form_for rows) (drop i rows)) ≡ escape (with_feed (line_in form (get_or rows i d))) ++ escape (text_in (form_for rows) (drop (i + 1) rows))
+rows-turn rows form i d is lt =
+    ap (λ (v : List LogRow). escape (text_in (form_for rows) v)) (drop_more rows i d lt)
+    ∙ rows-first (form_for rows) (get_or rows i d) (drop (i + 1) rows)
+    ∙ ap (λ (f : RowForm). escape (with_feed (line_in f (get_or rows i d))) ++ escape (text_in (form_for rows) (drop (i + 1) rows))) (sym is)
 
 drop-past : {X : Type 0} (i : ℕ) (xs : List X) → length xs ≤ i → drop i xs ≡ []
 drop-past zero [] le = refl
@@ -63,28 +76,22 @@ drop-past zero (x ∷ xs) le = absurd (omega (arith, le))
 drop-past (suc i) [] le = refl
 drop-past (suc i) (x ∷ xs) le = drop-past i xs (omega (arith, le))
 
-pub rows-end : (rows : List LogRow) (i : ℕ) → length rows ≤ i → escape (log_text (drop i rows)) ≡ []
-unfolding log_text
-rows-end rows i le = ap (λ (v : List LogRow). escape (log_text v)) (drop-past i rows le)
+pub rows-end : (rows : List LogRow) (i : ℕ) → length rows ≤ i → escape (text_in (form_for rows) (drop i rows)) ≡ []
+rows-end rows i le = ap (λ (v : List LogRow). escape (text_in (form_for rows) v)) (drop-past i rows le) ∙ ap escape (none-in (form_for rows))
 
 -- the line without its end
-pub row-cut : (r : LogRow) → take 38 (row_line r ++ 10 ∷ []) ≡ row_line r
-unfolding row_line
-row-cut r = refl
-
-row-length : (r : LogRow) → length (row_line r ++ 10 ∷ []) ≡ 39
-unfolding row_line
-row-length r = refl
-
--- which has 38 bytes, so that its end can be cut off
-pub row-long : (r : LogRow) (line bytes : List ℕ) → line ≡ row_line r ++ 10 ∷ [] → bytes ≡ line → 38 ≤ length bytes
-row-long r line bytes is same = omega (arith, ap length same, ap length is, row-length r)
-
-pub row-said : (r : Result (Unit {0}) WriteError) (row : LogRow) (line cut_line : List ℕ) (a b : Option (List ℕ)) (p q : List ℕ) → line ≡ row_line row ++ 10 ∷ [] → cut_line ≡ take 38 line
-    → (are_plain cut_line ≡ true → SaysText r (escape (with_feed cut_line)) a b p q) → SaysText r (escape (with_feed (row_line row))) a b p q
-row-said r row line cut_line a b p q is cuts said =
-    let cut_is : cut_line ≡ row_line row = cuts ∙ ap (take 38) is ∙ row-cut row in
-    subst (λ (v : List ℕ). SaysText r (escape (with_feed v)) a b p q) cut_is (said (ap are_plain cut_is ∙ row-plain row))
+pub row-said : (r : Result (Unit {0}) WriteError) (form : RowForm) (row : LogRow) (line cut_line : List ℕ) (n : ℕ) (a b : Option (List ℕ)) (p q : List ℕ)
+    → line ≡ line_in form row ++ 10 ∷ [] → n ≡ length line - 1 → cut_line ≡ take n line
+    → (are_plain cut_line ≡ true → SaysText r (escape (with_feed cut_line)) a b p q) → SaysText r (escape (with_feed (line_in form row))) a b p q
+row-said r form row line cut_line n a b p q is count cuts said =
+    let all : length line ≡ length (line_in form row) + 1 = ap length is ∙ length-append (line_in form row) (10 ∷ []) in
+    let whole : n ≡ length (line_in form row) = omega (arith, count, all) in
+    let cut_is : cut_line ≡ line_in form row = cuts ∙ (λ j. take (whole j) (is j)) ∙ take-front (line_in form row) (10 ∷ []) in
+    subst (λ (v : List ℕ). SaysText r (escape (with_feed v)) a b p q) cut_is (said (ap are_plain cut_is ∙ row-plain form row))
+  where
+    take-front : (xs ys : List ℕ) → take (length xs) (xs ++ ys) ≡ xs
+    take-front [] ys = refl
+    take-front (x ∷ xs) ys = ap (λ (v : List ℕ). x ∷ v) (take-front xs ys)
 
 -- ## Commands
 
@@ -125,8 +132,8 @@ line-said r line feed a b c p q w plain is said ok front =
 
 -- all of it, before its first byte
 pub saved-begun : (kept : Keeping) (now : ℕ) (rows : List LogRow) (others : List Other) (a : Option (List ℕ)) (p : List ℕ) → rows ≡ kept.rows → others ≡ kept.others
-    → Saying (with_feed (saved_text kept now)) (codes "{\"log\":\"" ++ (escape (log_text rows) ++ (codes "\",\"commands\":\"" ++ (escape (commands_from now others 0) ++ codes "\"}\n")))) a a p p
+    → Saying (with_feed (saved_text kept now)) (codes "{\"log\":\"" ++ (escape (text_in (form_for rows) rows) ++ (codes "\",\"commands\":\"" ++ (escape (commands_from now others 0) ++ codes "\"}\n")))) a a p p
 saved-begun kept now rows others a p is and_is =
     left (with_feed (saved_text kept now)) (with_feed (saved_text kept now)) _ a a p p
-    (saved-line kept now ∙ (λ j. codes "{\"log\":\"" ++ (escape (log_text (sym is j)) ++ (codes "\",\"commands\":\"" ++ (escape (commands_from now (sym and_is j) 0) ++ codes "\"}\n")))))
+    (saved-line kept now ∙ (λ j. codes "{\"log\":\"" ++ (escape (text_in (form_for (sym is j)) (sym is j)) ++ (codes "\",\"commands\":\"" ++ (escape (commands_from now (sym and_is j) 0) ++ codes "\"}\n")))))
     (begun (with_feed (saved_text kept now)) a p)

@@ -5,7 +5,7 @@ use Rattle.json.specs.Json.{document}
 use Rattle.tsb_lines.specs.Lines.{HasNoFeed, lines_of}
 use Rattle.tsb_text.specs.tsb_types.declared.lamp.Lamp.{Lamp}
 use Rattle.tsb_text.specs.tsb_types.declared.lamp.Lamp.TheVariants as lamps
-use Rattle.tsb_text.specs.tsb_types.declared.limits.TheConstants.{TICKS}
+use Rattle.tsb_text.specs.tsb_types.declared.limits.TheConstants.{OVERLAPS, PEDESTRIAN_DETECTORS, PREEMPTS, TICKS, VEHICLE_DETECTORS}
 use Rattle.tsb_types.specs.declared.clock_time.TheConstants.{FIRST_MOMENT, END_OF_DAYS}
 use Rattle.tsb_text.specs.tsb_step.tsb_plan.Plan.{Plan}
 use Rattle.tsb_step.specs.declared.inputs.Input.{Input}
@@ -16,11 +16,9 @@ use Rattle.tsb_command_text.specs.declared.command.Command.TheVariants as comman
 use Rattle.tsb_command_text.specs.declared.command.Reading.TheVariants.{Skip, Do}
 use Rattle.tsb_command_text.specs.Readings.{reading}
 use Rattle.tsb_log_text.specs.Logs.{log_of}
-use Rattle.tsb_log_text.specs.Rows.{inputs_of}
 use Rattle.tsb_text.specs.tsb_types.declared.row.Row.{Row}
-use Rattle.tsb_log_text.specs.Forms.{form_for}
+use Rattle.tsb_log_text.specs.Forms.{form_for, inputs_in}
 use Rattle.tsb_log_text.specs.ListText.{text_in}
-use Rattle.tsb_log_text.specs.LogText.{IsFit}
 use Rattle.tsb_text.specs.declared.kept.Other.{Other}
 use Rattle.tsb_text.specs.kept.Kept.{Keeping, kept_of}
 use Rattle.tsb_live_text.specs.saved.Saved.{commands_text, saved_json, saved_text}
@@ -34,10 +32,16 @@ SavedTextsAreJson = (kept : Keeping) (now : ℕ) → document (saved_text kept n
 
 -- ## The log
 
--- each tick of these inputs has a row that a log can spell
+-- a log can spell the row: its inputs are those that there are
+pub record FitsLog (row : Row) : Type 0 where
+  pub vehicles : row.vehicles.word < 2 ^ VEHICLE_DETECTORS
+  pub pedestrians : row.pedestrians.word < 2 ^ PEDESTRIAN_DETECTORS
+  pub preempts : row.preempts.word < 2 ^ PREEMPTS
+
+-- each tick of these inputs has such a row
 abbrev pub AreFit : List Input → Type 0
 AreFit [] = Unit {0}
-AreFit (Tick row ∷ is) = IsFit row × AreFit is
+AreFit (Tick row ∷ is) = FitsLog row × AreFit is
 AreFit (i ∷ is) = AreFit is
 
 -- the text of the log is read as the rows that are kept, where it has at most 64 MiB
@@ -54,7 +58,7 @@ IsUpTo most n = (1 ≤ n) × (n ≤ most)
 -- a lamp of a head that there is
 abbrev pub IsLamp : Lamp → Type 0
 IsLamp (lamps.Phase p color) = IsUpTo 16 p
-IsLamp (lamps.Overlap o color) = IsUpTo 4 o
+IsLamp (lamps.Overlap o color) = IsUpTo OVERLAPS o
 IsLamp (lamps.Pedestrian p color) = IsUpTo 16 p
 
 -- the lamp of a fault, if there is one
@@ -128,7 +132,7 @@ ReadsAreSpelled = (line : List ℕ) (c : Command) (i : Input) → reading line �
 
 -- the inputs that were read in a row
 abbrev pub RowsReadAreFit : Type 0
-RowsReadAreFit = (digits : List ℕ) (row : Row) → inputs_of digits ≡ Some row → IsFit row
+RowsReadAreFit = (line : List ℕ) (row : Row) → inputs_in line ≡ Some row → FitsLog row
 
 -- what is kept of such inputs, up to the last tick of a bench
 abbrev pub KeptAreSpelled : Type 0

@@ -59,9 +59,9 @@ refuses_0 : switch_refusal quad 0 false ≡ Some NoSuchPreempt
 unfolding quad
 refuses_0 = refl
 
-refuses_5 : switch_refusal quad 5 false ≡ Some NoSuchPreempt
+refuses_9 : switch_refusal quad 9 false ≡ Some NoSuchPreempt
 unfolding quad
-refuses_5 = refl
+refuses_9 = refl
 
 refuses_3_on : switch_refusal quad 3 true ≡ Some NoSuchPreempt
 unfolding quad

@@ -92,7 +92,9 @@ fn overlap_meets(plan: &Plan, asked: OfOverlap, overlap: Overlap) -> bool
 pub(super) fn each_overlap(plan: &Plan, asked: OfOverlap) -> bool
     ensures { result ≡ list_all (overlap_meets asked (plan_of plan.now)) (run_from 1 OVERLAPS) }
 {
-    Overlap::all().iter().all(|overlap| overlap_meets(plan, asked, *overlap))
+    Overlap::all()
+        .iter()
+        .all(|overlap| overlap_meets(plan, asked, *overlap))
 }
 
 /// Whether the preempt is as a rule asks.
@@ -109,7 +111,9 @@ fn preempt_meets(plan: &Plan, asked: OfPreempt, preempt: Preempt) -> bool
 pub(super) fn each_preempt(plan: &Plan, asked: OfPreempt) -> bool
     ensures { result ≡ list_all (preempt_meets asked (plan_of plan.now)) (run_from 1 PREEMPTS) }
 {
-    Preempt::all().iter().all(|preempt| preempt_meets(plan, asked, *preempt))
+    Preempt::all()
+        .iter()
+        .all(|preempt| preempt_meets(plan, asked, *preempt))
 }
 
 /// A list of an overlap.

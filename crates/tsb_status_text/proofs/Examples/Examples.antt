@@ -4,12 +4,13 @@ use Rattle.std.specs.Fmt.{digits}
 use Rattle.tsb_step.specs.declared.waits.Lack.TheVariants as lacks
 use Rattle.tsb_step.specs.declared.waits.Wait.TheVariants as waits
 use Rattle.tsb_step.specs.declared.status.PreemptState.TheVariants as preempt_states
+use Rattle.tsb_types.specs.Lists.{run_from}
 use Rattle.tsb_status_text.specs.Json.{numbers, values_from}
 use Rattle.tsb_status_text.specs.StatusText.{preempts_text, wait_text, waits_text}
 
 -- what a computed text opens
 unfoldable pub opened : Unit {0}
-unfolding numbers values_from preempts_text wait_text waits_text digits
+unfolding numbers values_from preempts_text run_from wait_text waits_text digits
 opened = tt
 
 -- ## Sets
@@ -23,16 +24,22 @@ none : numbers (λ p. p == 17) 16 ≡ codes "[]"
 unfolding opened
 none = refl
 
--- of four overlaps, no fifth is told
-overlaps : numbers (λ o. o == 4 || o == 5) 4 ≡ codes "[4]"
+-- of 64 detectors, no 65th is told
+detectors : numbers (λ d. d == 64 || d == 65) 64 ≡ codes "[64]"
 unfolding opened
-overlaps = refl
+detectors = refl
 
 -- ## Preempts
 
 dwells : preempts_text (λ n. if n == 2 then preempt_states.Dwell else preempt_states.NotActive) ≡ codes "[\"notActive\",\"dwell\",\"notActive\",\"notActive\"]"
 unfolding opened
 dwells = refl
+
+-- with another one the line has all of them
+all_told : preempts_text (λ n. if n == 6 then preempt_states.Dwell else preempt_states.NotActive)
+    ≡ codes "[\"notActive\",\"notActive\",\"notActive\",\"notActive\",\"notActive\",\"dwell\",\"notActive\",\"notActive\"]"
+unfolding opened
+all_told = refl
 
 -- ## Waits
 

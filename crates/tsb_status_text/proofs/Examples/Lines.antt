@@ -11,12 +11,13 @@ use Rattle.tsb_step.specs.declared.waits.Lack.TheVariants as lacks
 use Rattle.tsb_step.specs.declared.waits.Wait.TheVariants as waits
 use Rattle.tsb_step.specs.Status.{RingStatus, Status}
 use Rattle.tsb_status_text.specs.declared.line.TheConstants.{LONGEST}
+use Rattle.tsb_types.specs.Lists.{run_from}
 use Rattle.tsb_status_text.specs.Json.{numbers, values_from}
 use Rattle.tsb_status_text.specs.StatusText.{phases_text, overlaps_text, detectors_text, preempts_text, desk_text, ring_text, rings_text, wait_text, waits_text, status_text}
 
 -- what a computed line opens
 unfoldable pub opened_line : Unit {0}
-unfolding numbers values_from phases_text overlaps_text detectors_text preempts_text desk_text ring_text rings_text wait_text waits_text status_text digits
+unfolding numbers values_from run_from phases_text overlaps_text detectors_text preempts_text desk_text ring_text rings_text wait_text waits_text status_text digits
 opened_line = tt
 
 -- ## Phases 2 and 6 in green, 2 with a walk, and a call of 4

@@ -66,7 +66,7 @@ unfolding opened busy
 how_many = refl
 
 first_cells : DESK ∷ DETECTORS ∷ CALLS ∷ PHASES ∷ RINGS ∷ COORD ∷ PREEMPTS ∷ MONITOR ∷ ALL_CELLS ∷ [] ≡
-    2251 ∷ 2383 ∷ 2437 ∷ 2455 ∷ 2571 ∷ 2575 ∷ 2581 ∷ 2591 ∷ 2598 ∷ []
+    2687 ∷ 2819 ∷ 3023 ∷ 3041 ∷ 3157 ∷ 3161 ∷ 3167 ∷ 3181 ∷ 3188 ∷ []
 first_cells = refl
 
 -- the plan: phaseEnabled of phase 8, and sequenceData at its index 20, which is phase 8
@@ -75,22 +75,22 @@ unfolding opened busy
 plan_cells_stand = refl
 
 -- the desk's owner, the last timer of the detectors, the last count, the cell of two lists, right of way and clearing
-ends_stand : slice_index (cells_of busy) 2251 ∷ slice_index (cells_of busy) 2454 ∷ slice_index (cells_of busy) 2455 ∷ [] ≡ 3 ∷ 5 ∷ 2147516416 ∷ []
+ends_stand : slice_index (cells_of busy) 2687 ∷ slice_index (cells_of busy) 3040 ∷ slice_index (cells_of busy) 3041 ∷ [] ≡ 3 ∷ 5 ∷ 2147516416 ∷ []
 unfolding opened busy
 ends_stand = refl
 
 -- the rings' side, the pattern, the preempt in service
-more_stand : slice_index (cells_of busy) 2573 ∷ slice_index (cells_of busy) 2575 ∷ slice_index (cells_of busy) 2587 ∷ [] ≡ 1 ∷ 2 ∷ 4 ∷ []
+more_stand : slice_index (cells_of busy) 3159 ∷ slice_index (cells_of busy) 3161 ∷ slice_index (cells_of busy) 3177 ∷ [] ≡ 1 ∷ 2 ∷ 4 ∷ []
 unfolding opened busy
 more_stand = refl
 
 -- since when the local counter comes into step, how far it was ahead then, and the midnight that it counts from
-its_counter_stands : slice_index (cells_of busy) 2576 ∷ slice_index (cells_of busy) 2577 ∷ slice_index (cells_of busy) 2578 ∷ [] ≡ 30 ∷ 7 ∷ 7164000 ∷ []
+its_counter_stands : slice_index (cells_of busy) 3162 ∷ slice_index (cells_of busy) 3163 ∷ slice_index (cells_of busy) 3164 ∷ [] ≡ 30 ∷ 7 ∷ 7164000 ∷ []
 unfolding opened busy
 its_counter_stands = refl
 
 -- tick number 0 was at 7:00 of 2000-01-01, which is day 8
-its_clock_stands : slice_index (cells_of busy) 2579 ∷ slice_index (cells_of busy) 2580 ∷ [] ≡ 8 ∷ 252000 ∷ []
+its_clock_stands : slice_index (cells_of busy) 3165 ∷ slice_index (cells_of busy) 3166 ∷ [] ≡ 8 ∷ 252000 ∷ []
 unfolding opened busy
 its_clock_stands = refl
 

@@ -8,7 +8,7 @@ use Rattle.tsb_types.specs.Sets.{all_off}
 use Rattle.tsb_objects.specs.tsb_plan.declared.object.Object.{Object}
 use Rattle.tsb_objects.specs.tsb_plan.declared.object.Object.TheVariants.{PhaseRing, PhaseSide, PhaseConcurrency, PhaseMaximum1, SequenceData, PreemptDwellPhase}
 use Rattle.tsb_objects.specs.tsb_plan.declared.object.ObjectId.{ObjectId}
-use Rattle.tsb_objects.specs.tsb_plan.Plan.{Plan, with_values, is_concurrent}
+use Rattle.tsb_objects.specs.tsb_plan.Plan.{Plan, all_counts, with_values, is_concurrent}
 use Rattle.tsb_objects.specs.tsb_plan.Two.{two}
 use Rattle.tsb_objects.specs.tsb_rules.Rules.{first_broken}
 use Rattle.tsb_objects.proofs.tsb_rules.TwoLemmas.{two-meets}
@@ -43,9 +43,9 @@ pair_values =
 unfoldable pair : Plan
 pair = with_values two pair_values
 
-pair_count : pair.phase_count ≡ 16
+pair_count : (pair.phase_count ≡ 16) × (pair.counts ≡ all_counts)
 unfolding pair two
-pair_count = refl
+pair_count = (refl, refl)
 
 pair_rules : first_broken pair ≡ None
 unfolding opened pair two
@@ -99,9 +99,9 @@ called_values = (PreemptDwellPhase, 1, 8) ∷ []
 unfoldable called : Plan
 called = with_values two called_values
 
-called_count : called.phase_count ≡ 16
+called_count : (called.phase_count ≡ 16) × (called.counts ≡ all_counts)
 unfolding called two
-called_count = refl
+called_count = (refl, refl)
 
 called_rules : first_broken called ≡ None
 unfolding opened called two
@@ -131,9 +131,9 @@ serves_4 = refl
 
 -- ## A plan that is committed: 2 has a maximum green of 30 s
 
-pub two_count : two.phase_count ≡ 16
+pub two_count : (two.phase_count ≡ 16) × (two.counts ≡ all_counts)
 unfolding two
-two_count = refl
+two_count = (refl, refl)
 
 pub two_consistent : IsConsistent two
 two_consistent = consistent two two_count two-meets two_none

@@ -9,7 +9,7 @@ use Rattle.tsb_types.specs.declared.interval.PedestrianInterval.TheVariants.{Wal
 use Rattle.tsb_types.specs.declared.row.Row.{Row}
 use Rattle.tsb_types.specs.declared.stage.Stage.TheVariants.{Dwell}
 use Rattle.tsb_types.specs.Lists.{among, run_from}
-use Rattle.tsb_types.specs.Sets.{all_off, set_of_list}
+use Rattle.tsb_types.specs.Sets.{all_off, set_of_detectors, set_of_list}
 use Rattle.tsb_objects.specs.tsb_plan.declared.object.Object.TheVariants.{PhasePedestrianRecycle, CoordCorrectionMode, CoordCorrectionLimit}
 use Rattle.tsb_objects.specs.tsb_plan.Plan.{with_value, with_values}
 use Rattle.tsb_objects.specs.tsb_plan.Quad.{quad}
@@ -58,7 +58,7 @@ after s row = step s (Tick row)
 
 -- one input is on: of a vehicle detector, of a pedestrian detector, of a preempt
 abbrev pub vehicle : ℕ → Row
-vehicle d = record all_off { vehicles = set_of_list (2 ^ (d - 1)) }
+vehicle d = record all_off { vehicles = set_of_detectors (2 ^ (d - 1)) }
 
 abbrev pub button : ℕ → Row
 button d = record all_off { pedestrians = set_of_list (2 ^ (d - 1)) }

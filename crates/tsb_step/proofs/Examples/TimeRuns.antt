@@ -18,7 +18,7 @@ use Rattle.tsb_objects.specs.tsb_plan.declared.object.Object.{Object}
 use Rattle.tsb_objects.specs.tsb_plan.declared.object.Object.TheVariants.{PhaseMinRecall, PhaseMaxRecall, PhasePedRecall, PhaseWalk, PhasePedestrianClear, PhaseMinimumGreen, PhasePedestrianRecycle, OverlapIncludedPhases, PatternCycleTime, PatternSplitNumber, PatternSequenceNumber, SplitTime, SplitCoordPhase, UnitRedRevert}
 use Rattle.tsb_objects.specs.tsb_plan.Objects.{has_index}
 use Rattle.tsb_objects.specs.tsb_plan.Parts.{is_minus_green_yellow}
-use Rattle.tsb_objects.specs.tsb_plan.Plan.{Plan, empty, is_same, with_value, with_values, red_revert}
+use Rattle.tsb_objects.specs.tsb_plan.Plan.{Plan, Counts, all_counts, empty, is_same, with_value, with_values, red_revert}
 use Rattle.tsb_objects.specs.tsb_plan.Two.{two, two_values}
 use Rattle.tsb_objects.proofs.tsb_plan.TableLemmas.{order-injective}
 use Rattle.tsb_objects.proofs.tsb_plan.PlanLemmas.{same-parts}
@@ -70,14 +70,14 @@ unfolding two
 two_none = none_with two_values empty refl (λ o i out. refl)
 
 -- a plan of 16 phases that breaks no rule is one of those that the laws speak of
-pub consistent : (plan : Plan) → plan.phase_count ≡ 16 → first_broken plan ≡ None → HasNone plan.value → IsConsistent plan
+pub consistent : (plan : Plan) → (plan.phase_count ≡ 16) × (plan.counts ≡ all_counts) → first_broken plan ≡ None → HasNone plan.value → IsConsistent plan
 consistent plan count rules none = record {
   rules = rules;
   placed = λ o i out. none o i (sym (ap (λ (n : ℕ). nat_le 1 i && nat_le i n) (same_indices o)) ∙ sym (here o i) ∙ out);
 }
   where
-    here : (o : Object) (i : ℕ) → has_place plan o i ≡ (nat_le 1 i && nat_le i (indices_for 16 o))
-    here o i = ap (λ (n : ℕ). nat_le 1 i && nat_le i (indices_for n o)) count
+    here : (o : Object) (i : ℕ) → has_place plan o i ≡ (nat_le 1 i && nat_le i (indices_for 16 all_counts o))
+    here o i = ap₂ (λ (n : ℕ) (c : Counts). nat_le 1 i && nat_le i (indices_for n c o)) count.0 count.1
 
 -- ## Ticks with all inputs off
 
@@ -145,9 +145,9 @@ brisk_values =
 unfoldable pub brisk : Plan
 brisk = with_values two brisk_values
 
-pub brisk_count : brisk.phase_count ≡ 16
+pub brisk_count : (brisk.phase_count ≡ 16) × (brisk.counts ≡ all_counts)
 unfolding brisk two
-brisk_count = refl
+brisk_count = (refl, refl)
 
 pub brisk_rules : first_broken brisk ≡ None
 unfolding opened brisk two
@@ -362,9 +362,9 @@ paced_values =
 unfoldable pub paced : Plan
 paced = with_values brisk paced_values
 
-paced_count : paced.phase_count ≡ 16
+paced_count : (paced.phase_count ≡ 16) × (paced.counts ≡ all_counts)
 unfolding paced brisk two
-paced_count = refl
+paced_count = (refl, refl)
 
 paced_rules : first_broken paced ≡ None
 unfolding opened paced brisk two
@@ -427,9 +427,9 @@ recycled_values = (PhasePedestrianRecycle, 2, 1) ∷ []
 unfoldable pub recycled : Plan
 recycled = with_values paced recycled_values
 
-recycled_count : recycled.phase_count ≡ 16
+recycled_count : (recycled.phase_count ≡ 16) × (recycled.counts ≡ all_counts)
 unfolding recycled paced brisk two
-recycled_count = refl
+recycled_count = (refl, refl)
 
 recycled_rules : first_broken recycled ≡ None
 unfolding opened recycled paced brisk two

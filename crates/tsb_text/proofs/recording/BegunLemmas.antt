@@ -4,7 +4,7 @@ use Rattle.std.specs.declared.option.Option.{Option}
 use Rattle.tsb_types.specs.declared.refusal.Refusal.{Refusal}
 use Rattle.tsb_step.specs.declared.inputs.Input.{Input}
 use Rattle.tsb_command_text.specs.declared.command.Reading.{Reading}
-use Rattle.tsb_command_text.specs.declared.command.Reading.TheVariants.{Skip, Bad, Do}
+use Rattle.tsb_command_text.specs.declared.command.Reading.TheVariants.{Skip, Bad, Lines, Do}
 use Rattle.tsb_command_text.specs.Readings.{reading}
 use Rattle.tsb_lines.specs.Lines.{lines_of}
 use Rattle.tsb_dialog.specs.declared.answers.Flow.{Flow}
@@ -27,6 +27,7 @@ use Rattle.tsb_text.proofs.ObeyLemmas.{some-obeyed}
 some-does : (given : Setup) (is : List Input) (r : Reading) → (fault : Option LineFault) × (new : List Input) × Does given is r fault new
 some-does given is Skip = (None, is, (refl, refl))
 some-does given is Bad = (Some faults.BadCommand, is, (refl, refl))
+some-does given is (Lines is_wide) = (None, is, (refl, refl))
 some-does given is (Do c) =
     let o : (refusal : Option Refusal) × (new : List Input) × (text : List ℕ) × Obeys given nothing_besides is (task_of c) text refusal new = some-obeyed given is (task_of c) in
     (option_map faults.Refused o.0, o.1, (o.0, (o.2, o.3), refl))

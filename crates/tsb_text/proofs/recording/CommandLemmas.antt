@@ -11,7 +11,7 @@ use Rattle.tsb_step.specs.declared.inputs.Input.TheVariants.{Clock}
 use Rattle.tsb_step.specs.Play.{AreRight, AreRightFrom, Cmd, IsRight, remaining, remaining_after, remaining_from}
 use Rattle.tsb_step.specs.Step.{verdict}
 use Rattle.tsb_command_text.specs.declared.command.Reading.{Reading}
-use Rattle.tsb_command_text.specs.declared.command.Reading.TheVariants.{Skip, Bad, Do}
+use Rattle.tsb_command_text.specs.declared.command.Reading.TheVariants.{Skip, Bad, Lines, Do}
 use Rattle.tsb_command_text.specs.Readings.{reading}
 use Rattle.tsb_dialog.specs.declared.answers.Flow.{Flow}
 use Rattle.tsb_dialog.specs.declared.answers.Flow.TheVariants.{On, Over}
@@ -83,6 +83,7 @@ by-task given is (Ask cmd) text refusal new o =
 by-does : (given : Setup) (is : List Input) (r : Reading) (fault : Option LineFault) (new : List Input) → Does given is r fault new → Leads given.plan is new
 by-does given is Skip fault new d = stay given.plan is new d.1
 by-does given is Bad fault new d = stay given.plan is new d.1
+by-does given is (Lines is_wide) fault new d = stay given.plan is new d.1
 by-does given is (Do c) fault new d = by-task given is (task_of c) d.1.0 d.0 new d.1.1
 
 by-rest : (given : Setup) (f : Flow) (new : List Input) (end : End) (stop : Option Stopped) (Rest : Type 0) (told : List ℕ) → (Rest → Leads given.plan new end.inputs) → Follows f Rest (Ends end new stop told)

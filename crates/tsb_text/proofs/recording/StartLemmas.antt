@@ -10,20 +10,21 @@ use Rattle.tsb_log_text.specs.declared.log.LogRow.{LogRow}
 use Rattle.tsb_text.specs.declared.course.Mode.{Mode}
 use Rattle.tsb_text.specs.declared.course.Mode.TheVariants.{Recording}
 use Rattle.tsb_text.specs.Answers.{Leads, Setup, follower}
-use Rattle.tsb_text.specs.Obeyed.{Followed, IsKept, IsTold, OnCourse, Stands, Took}
+use Rattle.tsb_text.specs.Obeyed.{Followed, IsKept, IsTold, OnCourse, Stands}
 use Rattle.tsb_text.specs.recording.Leaves.{BeginsWith}
 use Rattle.tsb_text.specs.recording.Told.{nothing_told}
 
 -- no input has reached a record that begins
 pub record-begins : (given : Setup) (log : List LogRow) (course : OnCourse) (form : LogForm) → course.mode ≡ Recording form → given.log ≡ log → course.rows ≡ log → Follows given.plan (whole course.bench) []
-    → course.told.told ≡ nothing_told → course.acts ≡ given.acts → Stands given log course []
-record-begins given log course form recording same rows follows told acts = record {
+    → course.told.told ≡ nothing_told → course.acts ≡ given.acts → course.is_wide ≡ given.is_wide → Stands given log course []
+record-begins given log course form recording same rows follows told acts wide = record {
   same = same;
   rows = rows;
   follows = follows;
   keeps = subst (λ (m : Mode). IsKept m course.kept.kept given.plan []) (sym recording) tt;
   tells = subst (λ (m : Mode). IsTold m course.told.told given []) (sym recording) (told, tt);
   acts = acts;
+  wide = wide;
 }
 
 -- its clock is set first, and what follows that is taken

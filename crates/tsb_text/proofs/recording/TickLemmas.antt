@@ -3,7 +3,7 @@ use Rattle.std.proofs.Common.{◌≡◌, ℕ, ◌+◌, ◌-◌, ◌==◌, Bool, 
 use Rattle.std.specs.Option.{option_eq}
 use Rattle.std.specs.List.{All}
 use Rattle.std.proofs.lemmas.List.Elements.{All-nil, All-cons}
-use Rattle.tsb_types.specs.Events.{event, numbers_with, told}
+use Rattle.tsb_types.specs.Events.{detectors_with, event, numbers_with, told, told_detectors}
 use Rattle.tsb_types.specs.declared.event.Event.{Event}
 use Rattle.tsb_types.specs.declared.event.TheConstants as codes
 use Rattle.tsb_step.specs.declared.inputs.Input.{Input}
@@ -29,6 +29,9 @@ at-map n code (k ∷ ks) = at-more (event n code k) (map (λ k. event n code k) 
 
 at-told : (n code : ℕ) (f : ℕ → Bool) → AreAt n (told n code f)
 at-told n code f = at-map n code (numbers_with f)
+
+at-detectors : (n code : ℕ) (f : ℕ → Bool) → AreAt n (told_detectors n code f)
+at-detectors n code f = at-map n code (detectors_with f)
 
 at-one : (n code parameter : ℕ) → AreAt n (event n code parameter ∷ [])
 at-one n code parameter = at-more (event n code parameter) [] refl at-none
@@ -59,10 +62,10 @@ at-pattern n was is =
         at-none (at-one n codes.PATTERN_CHANGES (or_number is.pattern codes.FREE))
 
 at-tick : (n : ℕ) (f : Found) (was now : View) → AreAt n (tick_events n f was now)
-at-tick n f was now = search (at-append, at-told, at-if, at-one, at-none, at-differs) depth 70
+at-tick n f was now = search (at-append, at-told, at-detectors, at-if, at-one, at-none, at-differs) depth 70
 
 at-other : (n : ℕ) (noted : Noted) (was now : View) (was_selected now_selected : Selected) → AreAt n (other_events n noted was now was_selected now_selected)
-at-other n noted was now was_selected now_selected = search (at-append, at-told, at-if, at-one, at-none, at-pattern, at-differs) depth 70
+at-other n noted was now was_selected now_selected = search (at-append, at-told, at-detectors, at-if, at-one, at-none, at-pattern, at-differs) depth 70
 
 at-between : (noted : Noted) (s : State) (i : Input) (after : State) → AreAt after.now (events_between noted s i after)
 at-between noted s (Tick row) after = at-tick after.now (found noted s row after) (view s) (view after)

@@ -12,9 +12,14 @@ abbrev given : List Text → List Text
 given words = codes "tsb_field" ∷ words
 
 -- `diagram --title=A --seconds-per-line 60`
-diagram-words : wish_of (given (codes "diagram" ∷ codes "--title=A" ∷ codes "--seconds-per-line" ∷ codes "60" ∷ [])) ≡ Some (diagram None (Some (codes "A")) (Some 60) None None)
+diagram-words : wish_of (given (codes "diagram" ∷ codes "--title=A" ∷ codes "--seconds-per-line" ∷ codes "60" ∷ [])) ≡ Some (diagram None false (Some (codes "A")) (Some 60) None None)
 unfolding clap_on_literals
 diagram-words = refl
+
+-- of wide display lines
+wide-words : wish_of (given (codes "diagram" ∷ codes "--wide" ∷ [])) ≡ Some (diagram None true None None None None)
+unfolding clap_on_literals
+wide-words = refl
 
 -- events of a diagram need a moment
 no-moment : wish_of (given (codes "diagram" ∷ codes "--events=a.csv" ∷ [])) ≡ None
@@ -32,7 +37,7 @@ unfolding clap_on_literals
 no-device = refl
 
 -- a value that begins with a hyphen stands after `=`
-with-hyphen : wish_of (given (codes "diagram" ∷ codes "--title=-A" ∷ [])) ≡ Some (diagram None (Some (codes "-A")) None None None)
+with-hyphen : wish_of (given (codes "diagram" ∷ codes "--title=-A" ∷ [])) ≡ Some (diagram None false (Some (codes "-A")) None None None)
 unfolding clap_on_literals
 with-hyphen = refl
 

@@ -16,8 +16,9 @@ PLAN       the file of the plan, as of `tsb check`
 --version  the version
 --help     this page
 
-A row has 16 vehicle detectors, 8 pedestrian buttons and 4 preempts, 1 for on and 0 for off; or lists of
-what is on, such as `V1,17-20 P2 E1`, up to 64 detectors, 16 buttons and 8 preempts. Other lines are commands, such as `step 10`, `status` or `back 5`. Steps are counted in ticks.
+A row has 16 vehicle detectors, 8 pedestrian buttons and 4 preempts, 1 for on and 0 for off. Or it lists
+what is on, of up to 64 detectors, 16 buttons and 8 preempts: `V1,17-20 P2 E1`. Other lines are commands,
+such as `step 10`, `status` or `back 5`. Steps are counted in ticks.
 
 Example: one tick in which detector 2 is on
 

@@ -17,5 +17,5 @@ returns-in-Err g c =
       output = seen g.W.Write.contents c.session.new.writer;
       errors = seen g.E.Write.contents c.streams.inside.errors;
     } in
-    rw (← c.streams.view_is) (talked (Err c.in-Err.fault) (record { plan = checked_plan c.args.plan; log = c.args.log.now; acts = true }) c.tell_end.result before mid c.tell_end.new.self
+    rw (← c.streams.view_is) (talked (Err c.in-Err.fault) (record { plan = checked_plan c.args.plan; log = c.args.log.now; acts = true; is_wide = false }) c.tell_end.result before mid c.tell_end.new.self
     c.in-Err.ensures.ended c.in-Err.ensures.blame refl c.tell_end.ensures)

@@ -16,9 +16,9 @@ returns-then-is_empty g c =
 pub returns-else-is_empty : goal.returns-else-is_empty
 returns-else-is_empty g c =
     let form = form_asked c.args.asked.now in
-    let ended = subst (λ (greens : List GreenEnd). Drawn (IsDiagram form greens) c.write_with-in-Ok.result c.args.rows.now c.args.streams.now c.write_with-in-Ok.new.streams)
+    let ended = subst (λ (greens : List GreenEnd). Drawn c.args.asked.now.is_wide (IsDiagram form greens) c.write_with-in-Ok.result c.args.rows.now c.args.streams.now c.write_with-in-Ok.new.streams)
     c.deref.ensures.value c.write_with-in-Ok.ensures in
-    rw c.in-Some.is (subst (λ (from : Option Moment). PicturedBeside (Some c.in-Some.path.now) from c.write_with-in-Ok.result form c.args.rows.now (g.F.Files.bytes c.args.files.now)
+    rw c.in-Some.is (subst (λ (from : Option Moment). PicturedBeside c.args.asked.now.is_wide (Some c.in-Some.path.now) from c.write_with-in-Ok.result form c.args.rows.now (g.F.Files.bytes c.args.files.now)
     c.args.streams.now c.write_with-in-Ok.new.streams) (sym c.in-Some-from.is) (inr (c.in-Ok.ends.items, c.in-Ok.ensures, ended)))
 
 pub returns-in-Err : goal.returns-in-Err

@@ -4,7 +4,7 @@ use Rattle.tsb_field.proofs.events_run.write_events.Goals as goal
 
 pub returns-in-Ok : goal.returns-in-Ok
 returns-in-Ok g c =
-    told-on c.write_events_of.result c.args.from c.args.device.now c.in-Ok.rows (g.F.Files.bytes c.args.files.now) _ c.args.streams.now c.write_events_of.new.streams c.in-Ok.ensures c.write_events_of.ensures
+    told-on c.args.asked.now.is_wide c.write_events_of.result c.args.asked.now.from c.args.asked.now.device.now c.in-Ok.rows (g.F.Files.bytes c.args.files.now) _ c.args.streams.now c.write_events_of.new.streams c.in-Ok.ensures c.write_events_of.ensures
 
 pub returns-in-Err : goal.returns-in-Err
 returns-in-Err g c =

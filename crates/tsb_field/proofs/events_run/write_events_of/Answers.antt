@@ -11,10 +11,10 @@ pub returns-in-Ok : goal.returns-in-Ok
 returns-in-Ok g c =
     let before : Devices = record { input = seen g.R.Read.remaining c.streams.inside.input; output = seen g.W.Write.contents c.streams.inside.output; errors = seen g.E.Write.contents c.streams.inside.errors } in
     let after : Devices = c.write_made.new.streams in
-    rw (← c.streams.view_is) (told-read c.args.from c.args.device.now c.args.rows.now c.in-Ok.replay c.write_made.result before after (seen g.R.Read.remaining c.read_replay.new.reader) c.in-Ok.ensures (
+    rw (← c.streams.view_is) (told-read c.args.asked.now.is_wide c.args.asked.now.from c.args.asked.now.device.now c.args.rows.now c.in-Ok.replay c.write_made.result before after (seen g.R.Read.remaining c.read_replay.new.reader) c.in-Ok.ensures (
       c.write_made.ensures.0,
-      writes-made c.events_text-made.result c.write_made.result c.args.from c.args.device.now (session_events (changes_in c.in-Ok.replay) c.args.rows.now) before.output after.output before.errors after.errors
-          (log-same c.events_text-made.result c.args.from c.args.device.now c.as_bytes.result.now (session_events (changes_in c.in-Ok.replay) c.args.rows.now) (session_events c.changes.result.now c.rows.result.now)
+      writes-made c.events_text-made.result c.write_made.result c.args.asked.now.from c.args.asked.now.device.now (session_events (changes_in c.in-Ok.replay) c.args.rows.now) before.output after.output before.errors after.errors
+          (log-same c.events_text-made.result c.args.asked.now.from c.args.asked.now.device.now c.as_bytes.result.now (session_events (changes_in c.in-Ok.replay) c.args.rows.now) (session_events c.changes.result.now c.rows.result.now)
           c.as_bytes.ensures.value (λ j. session_events (c.changes.ensures j) (c.rows.ensures j)) c.events_text-made.ensures) c.write_made.ensures.1,
     ))
 
@@ -22,5 +22,5 @@ pub returns-in-Err : goal.returns-in-Err
 returns-in-Err g c =
     let before : Devices = record { input = seen g.R.Read.remaining c.streams.inside.input; output = seen g.W.Write.contents c.streams.inside.output; errors = seen g.E.Write.contents c.streams.inside.errors } in
     rw (← c.streams.view_is)
-    (inl (not-read (IsEvents c.args.from c.args.device.now) c.in-Err.fault c.failure_by.result c.fail.result c.args.rows.now before c.fail.new.self (seen g.R.Read.remaining c.read_replay.new.reader)
+    (inl (not-read c.args.asked.now.is_wide (IsEvents c.args.asked.now.from c.args.asked.now.device.now) c.in-Err.fault c.failure_by.result c.fail.result c.args.rows.now before c.fail.new.self (seen g.R.Read.remaining c.read_replay.new.reader)
     c.failure_by.ensures c.in-Err.ensures c.fail.ensures))

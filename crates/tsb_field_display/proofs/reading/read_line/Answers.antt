@@ -9,5 +9,5 @@ use Rattle.tsb_field_display.proofs.reading.read_line.Goals as goal
 pub returns-clause-apart : goal.returns-clause-apart
 returns-clause-apart c = record {
   pedestrians = subst (λ (h : PedestrianHeads). IsApart (has_number h.walks) (has_number h.clearances)) (sym c.pedestrians.ensures) (apart-pedestrians _);
-  overlaps = subst (λ (h : VehicleHeads). IsApart (has_number h.greens) (has_number h.yellows)) (sym c.vehicles-2.ensures) (apart-overlaps _);
+  overlaps = subst (λ (h : VehicleHeads). IsApart (has_number h.greens) (has_number h.yellows)) (sym c.overlaps.ensures) (apart-overlaps _);
 }

@@ -10,7 +10,7 @@ loop-lead-preserved c =
         inputs = λ kind number.
             rw w.row-is (row-on c.args.leads.now c.loop-lead.lead-index _ c.loop-lead.row w.with_input-row.result kind number c.loop-lead-test.true (sym c.is_on.ensures ∙ w.if-is_on.true)
             (w.with_input-row.ensures kind number) (c.loop-lead.invariant.inputs kind number));
-        vehicles = (let fits : w.with_input-row.result.vehicles.word < 2 ^ 16 = search rules in rw w.row-is fits);
+        vehicles = (let fits : w.with_input-row.result.vehicles.word < 2 ^ 64 = search rules in rw w.row-is fits);
         pedestrians = (let fits : w.with_input-row.result.pedestrians.word < 2 ^ 16 = search rules in rw w.row-is fits);
         preempts = (let fits : w.with_input-row.result.preempts.word < 2 ^ 16 = search rules in rw w.row-is fits);
       }

@@ -9,15 +9,15 @@ pub loop-before-preserved : goal.loop-before-preserved
 loop-before-preserved c =
     elim c.if-not-is_wired.branch [
       | then-not-is_wired+in_ok-push w ↦
-          ap (λ (ws : List Wire). ws ++ own_wires c.args.mapped.now c.args.kind (c.loop-before.before + 1 + 1) (c.most-most.result - (c.loop-before.before + 1)))
+          ap (λ (ws : List Wire). ws ++ own_wires c.args.mapped.now c.args.kind (c.loop-before.before + 1 + 1) (c.digits-most.result - (c.loop-before.before + 1)))
           (ap (λ (v : Vec Wire Global). v.items) w.all-is ∙ w.in_ok-push.ensures.items)
-          ∙ own-pushed c.args.mapped.now c.args.kind c.loop-before.before c.most-most.result c.loop-before.all.items _ c.loop-before-test.true (sym c.is_wired.ensures ∙ w.if-not-is_wired.true) c.loop-before.invariant
+          ∙ own-pushed c.args.mapped.now c.args.kind c.loop-before.before c.digits-most.result c.loop-before.all.items _ c.loop-before-test.true (sym c.is_wired.ensures ∙ w.if-not-is_wired.true) c.loop-before.invariant
       | else-not-is_wired w ↦
-          ap (λ (v : Vec Wire Global). v.items ++ own_wires c.args.mapped.now c.args.kind (c.loop-before.before + 1 + 1) (c.most-most.result - (c.loop-before.before + 1))) w.all-is
-          ∙ own-passed c.args.mapped.now c.args.kind c.loop-before.before c.most-most.result c.loop-before.all.items _ c.loop-before-test.true (sym c.is_wired.ensures ∙ w.if-not-is_wired.false) c.loop-before.invariant
+          ap (λ (v : Vec Wire Global). v.items ++ own_wires c.args.mapped.now c.args.kind (c.loop-before.before + 1 + 1) (c.digits-most.result - (c.loop-before.before + 1))) w.all-is
+          ∙ own-passed c.args.mapped.now c.args.kind c.loop-before.before c.digits-most.result c.loop-before.all.items _ c.loop-before-test.true (sym c.is_wired.ensures ∙ w.if-not-is_wired.false) c.loop-before.invariant
     ]
 
 pub returns : goal.returns
 returns c =
-    own-all c.args.mapped.now c.args.kind c.loop-before.before c.most-most.result c.loop-before.all.items _ c.loop-before-test.false c.loop-before.invariant
-    ∙ ap (λ (n : ℕ). c.args.all.now.items ++ own_wires c.args.mapped.now c.args.kind 1 n) c.most-most.ensures
+    own-all c.args.mapped.now c.args.kind c.loop-before.before c.digits-most.result c.loop-before.all.items _ c.loop-before-test.false c.loop-before.invariant
+    ∙ ap (λ (n : ℕ). c.args.all.now.items ++ own_wires c.args.mapped.now c.args.kind 1 n) c.digits-most.ensures

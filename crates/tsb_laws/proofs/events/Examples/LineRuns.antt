@@ -3,7 +3,7 @@
 use Rattle.std.specs.Prelude.{◌≡◌, ◌≤◌, ◌==◌, true, false, not, List, [], ◌∷◌, filter, Some, refl}
 use Rattle.tsb_step.specs.tsb_types.Events.{event}
 use Rattle.tsb_step.specs.tsb_types.Intervals.{is_green}
-use Rattle.tsb_step.specs.tsb_types.Sets.{all_off, has_number}
+use Rattle.tsb_step.specs.tsb_types.Sets.{all_off, has_detector}
 use Rattle.tsb_step.specs.tsb_types.declared.event.Event.{Event}
 use Rattle.tsb_step.specs.tsb_types.declared.lamp.Lamp.TheVariants as lamps
 use Rattle.tsb_step.specs.tsb_types.declared.lamp.SignalColor.TheVariants as colours
@@ -44,11 +44,11 @@ usual = usual_after all_off
 abbrev at_power_up : List Event
 at_power_up = event 1 1 2 ∷ event 1 1 6 ∷ event 1 21 2 ∷ event 1 61 1 ∷ []
 
-power_up_lines : lines.events_of (signals (start quick)) (shown_in (replay quick walked)) ≡ at_power_up
+power_up_lines : lines.events_of (signals false (start quick)) (shown_in false (replay quick walked)) ≡ at_power_up
 unfolding opened
 power_up_lines = refl
 
-power_up_told : filter is_of_line (events_of usual (start quick) (Tick all_off)) ≡ at_power_up
+power_up_told : filter (is_of_line false) (events_of usual (start quick) (Tick all_off)) ≡ at_power_up
 unfolding opened
 power_up_told = refl
 
@@ -75,20 +75,20 @@ a_trip = record { consistent = known.consistent; few = known.few; taken = taken 
 abbrev at_trip : List Event
 at_trip = event 1 7 2 ∷ event 1 7 6 ∷ event 1 23 2 ∷ event 1 64 1 ∷ event 1 173 6 ∷ []
 
-trip_lines : lines.events_of (signals (replay quick walked)) (shown_in tripped) ≡ at_trip
+trip_lines : lines.events_of (signals false (replay quick walked)) (shown_in false tripped) ≡ at_trip
 unfolding opened
 trip_lines = refl
 
-trip_told : filter is_of_line (events_of usual (replay quick walked) fault) ≡ at_trip
+trip_told : filter (is_of_line false) (events_of usual (replay quick walked) fault) ≡ at_trip
 unfolding opened
 trip_told = refl
 
 -- the tick of the line before
-reads_1 : (shown_in (replay quick walked)).tick ≡ 1
+reads_1 : (shown_in false (replay quick walked)).tick ≡ 1
 unfolding opened
 reads_1 = refl
 
-would_read_0 : (shown_in (start quick)).tick ≡ 0
+would_read_0 : (shown_in false (start quick)).tick ≡ 0
 unfolding opened
 would_read_0 = refl
 
@@ -97,7 +97,7 @@ still_green : is_green (interval tripped 2) ≡ true
 unfolding opened
 still_green = refl
 
-shows_none : lines.is_green (signals tripped) 2 ≡ false
+shows_none : lines.is_green (signals false tripped) 2 ≡ false
 unfolding opened
 shows_none = refl
 
@@ -112,7 +112,7 @@ in_flash : (view flashing_17).flashes ≡ true
 unfolding opened
 in_flash = refl
 
-out_of_sight : lines.is_in_flash (signals flashing_17) ≡ false
+out_of_sight : lines.is_in_flash (signals false flashing_17) ≡ false
 unfolding opened
 out_of_sight = refl
 
@@ -183,6 +183,6 @@ stays_on : lit_after (says_at says_vehicle 3) false (filter (λ e. not (e.code =
 unfolding opened
 stays_on = refl
 
-is_off : has_number (last_row passed).vehicles 3 ≡ false
+is_off : has_detector (last_row passed).vehicles 3 ≡ false
 unfolding opened
 is_off = refl

@@ -23,7 +23,7 @@ unfolding scenes.opened two command_of_one command_of_two line_of
 opened = tt
 
 abbrev pub given : Setup
-given = record { plan = two; log = []; acts = true }
+given = record { plan = two; log = []; acts = true; is_wide = false }
 
 abbrev pub commands : List ℕ
 commands = codes "step 1\nbegin 1\nundo\nback 2\n"

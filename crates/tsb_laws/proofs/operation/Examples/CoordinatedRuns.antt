@@ -10,7 +10,7 @@ use Rattle.tsb_step.specs.tsb_plan.declared.object.Object.{Object}
 use Rattle.tsb_step.specs.tsb_plan.declared.object.Object.TheVariants.{PhaseMinimumGreen, PhaseYellowChange, PatternOffsetTime}
 use Rattle.tsb_step.specs.tsb_plan.Objects.{greatest}
 use Rattle.tsb_step.specs.tsb_plan.Parts.{cycle}
-use Rattle.tsb_step.specs.tsb_plan.Plan.{Plan, phases, is_enabled, yellow_change, red_clear, has_minimum_recall, with_values}
+use Rattle.tsb_step.specs.tsb_plan.Plan.{Plan, all_counts, phases, is_enabled, yellow_change, red_clear, has_minimum_recall, with_values}
 use Rattle.tsb_step.specs.tsb_plan.Quad.{quad}
 use Rattle.tsb_step.specs.tsb_plan.Running.{mode_in_effect, recalls_minimum, is_on_maximum_recall}
 use Rattle.tsb_step.specs.tsb_rules.Consistent.{IsPhase}
@@ -53,7 +53,7 @@ not_green = refl
 
 count_is_16 : (replay omits selected).plan.phase_count ≡ 16
 unfolding opened
-count_is_16 = omits_count
+count_is_16 = omits_count.0
 
 record Awaited (plan : Plan) (is : List Input) (c : ℕ) : Type 0 where
   consistent : IsConsistent plan
@@ -93,9 +93,9 @@ prompt_fits : Fits greatest prompt.value
 unfolding prompt
 prompt_fits = values_fit greatest prompt_values quad refl (quad_fits greatest refl refl)
 
-prompt_count : prompt.phase_count ≡ 16
+prompt_count : (prompt.phase_count ≡ 16) × (prompt.counts ≡ all_counts)
 unfolding quad prompt
-prompt_count = refl
+prompt_count = (refl, refl)
 
 prompt_breaks_none : first_broken prompt ≡ None
 unfolding opened prompt
@@ -186,7 +186,7 @@ record ReadyGreen (plan : Plan) (is : List Input) (row : Row) (r : Ring) (p : �
 a_ready_green : ReadyGreen prompt started (vehicle 5) Ring2 6
 a_ready_green = record {
   consistent = prompt_consistent;
-  few = (let count = prompt_count in omega (arith, count));
+  few = (let count = prompt_count.0 in omega (arith, count));
   taken = taken;
   untripped = dark;
   quiet = none_served;

@@ -83,7 +83,7 @@ at_maximum = record { was_green = refl; ends = refl; output = refl; acts = refl;
 a_maximum_end : GreenEnd brisk (run 10) cars 1
 a_maximum_end = record {
   consistent = brisk_consistent;
-  few = (let count = brisk_count in omega (arith, count));
+  few = (let count = brisk_count.0 in omega (arith, count));
   taken = run_taken 10 (omega arith);
   untripped = run_dark 10 (omega arith);
   ended = ends_so brisk (run 10) cars 1 at_maximum.was_green at_maximum.ends;
@@ -118,7 +118,7 @@ has_output_4 = refl
 a_forced_end : (p n : ℕ) (is_held : Bool) → n ≤ 200 → AtForceOff p n is_held → GreenEnd round (so_far n) (vehicle 4) p
 a_forced_end p n is_held low it = record {
   consistent = round_consistent;
-  few = (let count = round_count in omega (arith, count));
+  few = (let count = round_count.0 in omega (arith, count));
   taken = round_taken n (omega (arith, low));
   untripped = round_dark n (omega (arith, low));
   ended = ends_so round (so_far n) (vehicle 4) p it.was_green it.ends;

@@ -6,7 +6,7 @@ use Rattle.tsb_step.specs.tsb_plan.declared.object.Object.TheVariants.{PatternOf
 use Rattle.tsb_step.specs.tsb_plan.declared.plan.patterns.CorrectionMode.TheVariants.{AtOnce, AddOnly}
 use Rattle.tsb_step.specs.tsb_plan.Objects.{greatest}
 use Rattle.tsb_step.specs.tsb_plan.Parts.{cycle, correction_mode, correction_limit}
-use Rattle.tsb_step.specs.tsb_plan.Plan.{Plan, with_values}
+use Rattle.tsb_step.specs.tsb_plan.Plan.{Plan, all_counts, with_values}
 use Rattle.tsb_step.specs.tsb_plan.Quad.{quad}
 use Rattle.tsb_step.specs.tsb_rules.Rules.{first_broken}
 use Rattle.tsb_step.specs.tsb_coord.declared.correction.Correction.{Correction}
@@ -40,9 +40,9 @@ adding_fits : Fits greatest adding.value
 unfolding adding
 adding_fits = values_fit greatest adding_values quad refl (quad_fits greatest refl refl)
 
-adding_count : adding.phase_count ≡ 16
+adding_count : (adding.phase_count ≡ 16) × (adding.counts ≡ all_counts)
 unfolding quad adding
-adding_count = refl
+adding_count = (refl, refl)
 
 adding_breaks_none : first_broken adding ≡ None
 unfolding opened adding

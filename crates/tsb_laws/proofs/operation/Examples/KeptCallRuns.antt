@@ -61,7 +61,7 @@ record Call (plan : Plan) (is later : List Input) (p q : ℕ) : Type 0 where
 a_call : Call quad asking waiting 4 2
 a_call = record {
   consistent = quad_consistent;
-  few = (let count = quad_count in omega (arith, count));
+  few = (let count = quad_count.0 in omega (arith, count));
   taken = taken;
   runs_on = runs_on;
   vehicle = is_remembered_4;

@@ -6,7 +6,7 @@ use Rattle.tsb_step.specs.tsb_plan.declared.object.Object.{Object}
 use Rattle.tsb_step.specs.tsb_plan.declared.object.Object.TheVariants.{PhaseMinimumGreen, PatternOffsetTime, SplitCoordPhase, CoordForceMode}
 use Rattle.tsb_step.specs.tsb_plan.Objects.{greatest}
 use Rattle.tsb_step.specs.tsb_plan.Parts.{cycle, forces_late}
-use Rattle.tsb_step.specs.tsb_plan.Plan.{Plan, walk, pedestrian_clear, with_values}
+use Rattle.tsb_step.specs.tsb_plan.Plan.{Plan, all_counts, walk, pedestrian_clear, with_values}
 use Rattle.tsb_step.specs.tsb_plan.Quad.{quad}
 use Rattle.tsb_step.specs.tsb_rules.Rules.{first_broken}
 use Rattle.tsb_step.specs.tsb_coord.Coordinated.{counter, force_off, yields_to, counted_on, is_from_to}
@@ -45,9 +45,9 @@ late_fits : Fits greatest late.value
 unfolding late
 late_fits = values_fit greatest late_values quad refl (quad_fits greatest refl refl)
 
-late_count : late.phase_count ≡ 16
+late_count : (late.phase_count ≡ 16) × (late.counts ≡ all_counts)
 unfolding quad late
-late_count = refl
+late_count = (refl, refl)
 
 late_breaks_none : first_broken late ≡ None
 unfolding opened late
@@ -167,7 +167,7 @@ record LateWait (plan : Plan) (base later : List Input) (row : Row) (p n : ℕ) 
 a_late_wait : LateWait late started (ticks all_off 10) all_off 6 10
 a_late_wait = record {
   consistent = late_consistent;
-  few = (let count = late_count in omega (arith, count));
+  few = (let count = late_count.0 in omega (arith, count));
   taken = taken_10;
   untripped = none_trips late all_off started late_consistent taken unlit 10 in_time;
   pressed = goes_on (is_pressed_in_pattern 6) late started (ticks all_off 11) pressed;
@@ -208,7 +208,7 @@ lacks_nothing = record { green = refl; span = span_then; conflict = refl; quiet 
 a_late_green : LateGreen late (run 10) all_off 6
 a_late_green = record {
   consistent = late_consistent;
-  few = (let count = late_count in omega (arith, count));
+  few = (let count = late_count.0 in omega (arith, count));
   taken = taken_10;
   green = lacks_nothing;
 }

@@ -7,7 +7,7 @@ use Rattle.tsb_step.specs.tsb_types.declared.row.Row.{Row}
 use Rattle.tsb_step.specs.tsb_plan.declared.object.Object.{Object}
 use Rattle.tsb_step.specs.tsb_plan.declared.object.Object.TheVariants.{PhaseMinimumGreen, PhaseMaximum1, PhaseYellowChange, PhaseRedClear, PatternOffsetTime, SplitCoordPhase, CoordForceMode, CoordMaximumMode}
 use Rattle.tsb_step.specs.tsb_plan.Objects.{greatest}
-use Rattle.tsb_step.specs.tsb_plan.Plan.{Plan, walk, pedestrian_clear, with_values}
+use Rattle.tsb_step.specs.tsb_plan.Plan.{Plan, all_counts, walk, pedestrian_clear, with_values}
 use Rattle.tsb_step.specs.tsb_plan.Quad.{quad}
 use Rattle.tsb_step.specs.tsb_plan.Running.{floating_time, pattern_maximum}
 use Rattle.tsb_step.specs.tsb_rules.Rules.{first_broken}
@@ -72,9 +72,9 @@ floating_fits : Fits greatest floating.value
 unfolding floating
 floating_fits = values_fit greatest floating_values quad refl (quad_fits greatest refl refl)
 
-floating_count : floating.phase_count ≡ 16
+floating_count : (floating.phase_count ≡ 16) × (floating.counts ≡ all_counts)
 unfolding quad floating
-floating_count = refl
+floating_count = (refl, refl)
 
 floating_breaks_none : first_broken floating ≡ None
 unfolding opened floating
@@ -121,7 +121,7 @@ floating_green = record { green = refl; conflict = refl; quiet = refl; initial =
 a_floating_green : AGreen floating (since_then all_off 10) all_off 6
 a_floating_green = record {
   consistent = floating_consistent;
-  few = (let count = floating_count in omega (arith, count));
+  few = (let count = floating_count.0 in omega (arith, count));
   taken = floating_taken_10;
   untripped = dark_then floating all_off started floating_consistent floating_taken floating_unlit 10 floating_in_time;
   green = floating_green;
@@ -146,7 +146,7 @@ floating_not_ready = refl
 a_floating_wait : AWait floating started (ticks all_off 10) all_off 6 10
 a_floating_wait = record {
   consistent = floating_consistent;
-  few = (let count = floating_count in omega (arith, count));
+  few = (let count = floating_count.0 in omega (arith, count));
   taken = floating_taken_10;
   untripped = floating_untripped;
   waited = record {
@@ -195,9 +195,9 @@ maximal_fits : Fits greatest maximal.value
 unfolding maximal
 maximal_fits = values_fit greatest maximal_values quad refl (quad_fits greatest refl refl)
 
-maximal_count : maximal.phase_count ≡ 16
+maximal_count : (maximal.phase_count ≡ 16) × (maximal.counts ≡ all_counts)
 unfolding quad maximal
-maximal_count = refl
+maximal_count = (refl, refl)
 
 maximal_breaks_none : first_broken maximal ≡ None
 unfolding opened maximal
@@ -234,7 +234,7 @@ is_maxed = record { number = 1; runs = refl; maximum = 10; acts = refl; long = r
 a_maximum_green : AGreen maximal (since_then all_off 10) all_off 6
 a_maximum_green = record {
   consistent = maximal_consistent;
-  few = (let count = maximal_count in omega (arith, count));
+  few = (let count = maximal_count.0 in omega (arith, count));
   taken = maximal_taken_10;
   untripped = dark_then maximal all_off started maximal_consistent maximal_taken maximal_unlit 10 maximal_in_time;
   green = maximum_green;
@@ -263,7 +263,7 @@ maximal_not_ready = refl
 a_maximum_wait : AWait maximal started (ticks all_off 10) all_off 6 10
 a_maximum_wait = record {
   consistent = maximal_consistent;
-  few = (let count = maximal_count in omega (arith, count));
+  few = (let count = maximal_count.0 in omega (arith, count));
   taken = maximal_taken_10;
   untripped = none_trips maximal all_off started maximal_consistent maximal_taken maximal_unlit 10 maximal_in_time;
   waited = record {

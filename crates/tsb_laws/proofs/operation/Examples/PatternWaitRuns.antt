@@ -8,7 +8,7 @@ use Rattle.tsb_step.specs.tsb_plan.declared.object.Object.{Object}
 use Rattle.tsb_step.specs.tsb_plan.declared.object.Object.TheVariants.{PhaseEnabled, PhaseRing, PhaseSide, PhaseConcurrency, PhaseMinimumGreen, PhaseMaximum1, PhaseMaximum2, PhaseMaximumInitial, PhaseWalk, PhasePedestrianClear, PhaseYellowChange, PhaseRedClear, PhaseRedRevert, UnitRedRevert, VehicleDetectorCallPhase, SequenceData, PatternCycleTime, PatternOffsetTime, PatternSplitNumber, PatternSequenceNumber, SplitTime, SplitCoordPhase}
 use Rattle.tsb_step.specs.tsb_plan.Objects.{greatest}
 use Rattle.tsb_step.specs.tsb_plan.Parts.{cycle}
-use Rattle.tsb_step.specs.tsb_plan.Plan.{Plan, empty, phases, has_variable_initial, minimum_green, maximum_initial, walk, pedestrian_clear, with_values}
+use Rattle.tsb_step.specs.tsb_plan.Plan.{Plan, all_counts, empty, phases, has_variable_initial, minimum_green, maximum_initial, walk, pedestrian_clear, with_values}
 use Rattle.tsb_step.specs.tsb_rules.Rules.{first_broken}
 use Rattle.tsb_step.specs.tsb_coord.Correction.{forces}
 use Rattle.tsb_step.specs.tsb_ring.Rings.{Ring, Ring1, in_ring}
@@ -66,9 +66,9 @@ round_fits : Fits limit round.value
 unfolding round
 round_fits = values_alone_fit limit round_values refl
 
-pub round_count : round.phase_count ≡ 16
+pub round_count : (round.phase_count ≡ 16) × (round.counts ≡ all_counts)
 unfolding round
-round_count = refl
+round_count = (refl, refl)
 
 round_breaks_none : first_broken round ≡ None
 unfolding opened round
@@ -78,7 +78,7 @@ pub round_consistent : IsConsistent round
 round_consistent = consistent limit round round_count round_breaks_none round_fits
 
 round_few : round.phase_count ≤ 16
-round_few = let count = round_count in omega (arith, count)
+round_few = let count = round_count.0 in omega (arith, count)
 
 round_together : list_all (goes_with_all round) (phases round) ≡ true
 unfolding opened round

@@ -6,7 +6,7 @@ use Rattle.tsb_step.specs.tsb_plan.declared.object.Object.{Object}
 use Rattle.tsb_step.specs.tsb_plan.declared.object.Object.TheVariants.{PhaseMinimumGreen, PatternOffsetTime, PatternPermissiveTime}
 use Rattle.tsb_step.specs.tsb_plan.Objects.{greatest}
 use Rattle.tsb_step.specs.tsb_plan.Parts.{permissive_time}
-use Rattle.tsb_step.specs.tsb_plan.Plan.{Plan, walk, pedestrian_clear, with_values}
+use Rattle.tsb_step.specs.tsb_plan.Plan.{Plan, all_counts, walk, pedestrian_clear, with_values}
 use Rattle.tsb_step.specs.tsb_plan.Quad.{quad}
 use Rattle.tsb_step.specs.tsb_rules.Rules.{first_broken}
 use Rattle.tsb_step.specs.tsb_coord.Coordinated.{force_off}
@@ -40,9 +40,9 @@ permitting_fits : Fits greatest permitting.value
 unfolding permitting
 permitting_fits = values_fit greatest permitting_values quad refl (quad_fits greatest refl refl)
 
-permitting_count : permitting.phase_count ≡ 16
+permitting_count : (permitting.phase_count ≡ 16) × (permitting.counts ≡ all_counts)
 unfolding quad permitting
-permitting_count = refl
+permitting_count = (refl, refl)
 
 permitting_breaks_none : first_broken permitting ≡ None
 unfolding opened permitting
@@ -122,7 +122,7 @@ permitting_not_ready = refl
 a_permitted_wait : AWait permitting started (ticks (vehicle 8) 10) (vehicle 8) 6 10
 a_permitted_wait = record {
   consistent = permitting_consistent;
-  few = (let count = permitting_count in omega (arith, count));
+  few = (let count = permitting_count.0 in omega (arith, count));
   taken = permitting_taken_10;
   untripped = none_trips permitting (vehicle 8) started permitting_consistent permitting_taken permitting_unlit 10 permitting_in_time;
   waited = record {
@@ -167,7 +167,7 @@ a_permitted_green : APermitted permitting (since_then (vehicle 8) 10) (vehicle 8
 a_permitted_green = record {
   lacks = record {
     consistent = permitting_consistent;
-    few = (let count = permitting_count in omega (arith, count));
+    few = (let count = permitting_count.0 in omega (arith, count));
     taken = permitting_taken_10;
     untripped = dark_then permitting (vehicle 8) started permitting_consistent permitting_taken permitting_unlit 10 permitting_in_time;
     green = permitted_green;

@@ -6,7 +6,7 @@ use Rattle.tsb_step.specs.tsb_types.declared.stage.Stage.{Stage}
 use Rattle.tsb_step.specs.tsb_types.declared.stage.Stage.TheVariants.{Dwell}
 use Rattle.tsb_step.specs.tsb_plan.declared.object.Object.TheVariants.{PhaseRedRevert, UnitRedRevert, PreemptChoosesAnew}
 use Rattle.tsb_step.specs.tsb_plan.Parts.{track_green}
-use Rattle.tsb_step.specs.tsb_plan.Plan.{Plan, empty, with_values, red_revert}
+use Rattle.tsb_step.specs.tsb_plan.Plan.{Plan, all_counts, empty, with_values, red_revert}
 use Rattle.tsb_step.specs.tsb_preempt.Service.{has_track}
 use Rattle.tsb_step.specs.tsb_rules.Rules.{first_broken}
 use Rattle.tsb_step.specs.declared.inputs.Input.{Input}
@@ -29,9 +29,9 @@ use Rattle.tsb_laws.proofs.operation.Examples.PreemptStageRuns.{engine, engine_v
 unfoldable pub anew : Plan
 anew = with_values empty ((PreemptChoosesAnew, 1, 1) ∷ engine_values)
 
-anew_count : anew.phase_count ≡ 16
+anew_count : (anew.phase_count ≡ 16) × (anew.counts ≡ all_counts)
 unfolding anew
-anew_count = refl
+anew_count = (refl, refl)
 
 anew_breaks_none : first_broken anew ≡ None
 unfolding opened anew
@@ -44,7 +44,7 @@ anew_fits = values_alone_fit limit ((PreemptChoosesAnew, 1, 1) ∷ engine_values
 pub one_anew : AnEngine anew
 one_anew = record {
   consistent = consistent limit anew anew_count anew_breaks_none anew_fits;
-  few = (let count = anew_count in omega (arith, count));
+  few = (let count = anew_count.0 in omega (arith, count));
   fits = anew_fits;
 }
 

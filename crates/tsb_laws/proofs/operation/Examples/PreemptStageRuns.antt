@@ -1,7 +1,7 @@
 -- Runs from power-up in which a preempt is in its stages, and mistakes that the laws of these refuse.
 use Rattle.std.proofs.Common.{◌≡◌, ℕ, suc, ◌+◌, ◌*◌, ◌≤◌, Bool, true, false, not, if◌then◌else◌, min, List, [], ◌∷◌, ◌++◌, Some, None, refl, sym, ap, arith}
 use Rattle.tsb_step.specs.tsb_cells.declared.timer.Timer.TheVariants.{Off, On}
-use Rattle.tsb_step.specs.tsb_types.Sets.{all_off, set_of_list}
+use Rattle.tsb_step.specs.tsb_types.Sets.{all_off, set_of_detectors}
 use Rattle.tsb_step.specs.tsb_types.declared.interval.Interval.{Interval}
 use Rattle.tsb_step.specs.tsb_types.declared.row.Row.{Row}
 use Rattle.tsb_step.specs.tsb_types.declared.stage.Stage.{Stage}
@@ -10,7 +10,7 @@ use Rattle.tsb_step.specs.tsb_plan.declared.object.Object.{Object}
 use Rattle.tsb_step.specs.tsb_plan.declared.object.Object.TheVariants.{PhaseEnabled, PhaseRing, PhaseSide, PhaseMinimumGreen, PhaseMaximum1, PhaseMaximum2, PhaseYellowChange, PhaseRedClear, PhaseRedRevert, UnitRedRevert, VehicleDetectorCallPhase, SequenceData, PreemptMinimumGreen, PreemptMinimumWalk, PreemptEnterPedClear, PreemptTrackGreen, PreemptDwellPhase, PreemptExitPhase}
 use Rattle.tsb_step.specs.tsb_plan.Objects.{greatest}
 use Rattle.tsb_step.specs.tsb_plan.Parts.{is_dwell_phase, preempt_minimum_green, track_green}
-use Rattle.tsb_step.specs.tsb_plan.Plan.{Plan, empty, with_values, yellow_change, red_clear, red_revert}
+use Rattle.tsb_step.specs.tsb_plan.Plan.{Plan, all_counts, empty, with_values, yellow_change, red_clear, red_revert}
 use Rattle.tsb_step.specs.tsb_plan.Quad.{quad}
 use Rattle.tsb_step.specs.tsb_phase.Pedestrian.{walk_time, clearance_time}
 use Rattle.tsb_step.specs.tsb_preempt.Service as preempt_service
@@ -69,9 +69,9 @@ pub record AnEngine (plan : Plan) : Type 0 where
   pub few : plan.phase_count ≤ 16
   pub fits : Fits limit plan.value
 
-engine_count : engine.phase_count ≡ 16
+engine_count : (engine.phase_count ≡ 16) × (engine.counts ≡ all_counts)
 unfolding engine
-engine_count = refl
+engine_count = (refl, refl)
 
 engine_breaks_none : first_broken engine ≡ None
 unfolding opened engine
@@ -84,7 +84,7 @@ engine_fits = values_alone_fit limit engine_values refl
 pub an_engine : AnEngine engine
 an_engine = record {
   consistent = consistent limit engine engine_count engine_breaks_none engine_fits;
-  few = (let count = engine_count in omega (arith, count));
+  few = (let count = engine_count.0 in omega (arith, count));
   fits = engine_fits;
 }
 
@@ -153,7 +153,7 @@ module _ (plan : Plan) (base : List Input) (it : Begun plan base) (n : ℕ) (low
 
 -- a car at 1 and one at 2 have been there in tick 1
 abbrev both : Row
-both = record all_off { vehicles = set_of_list 3 }
+both = record all_off { vehicles = set_of_detectors 3 }
 
 abbrev pub asked : List Input
 asked = Switch 1 true ∷ Tick all_off ∷ Tick both ∷ []

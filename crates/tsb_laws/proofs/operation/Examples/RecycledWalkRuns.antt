@@ -4,8 +4,10 @@ use Rattle.std.proofs.Common.{◌≡◌, ℕ, zero, suc, ◌+◌, ◌-◌, ◌<�
 use Rattle.std.proofs.lemmas.Bool.{and_from, true≢false, and_right, and_left}
 use Rattle.tsb_step.specs.tsb_cells.Timer.{has_reached}
 use Rattle.tsb_step.specs.tsb_cells.declared.timer.Timer.TheVariants.{On}
-use Rattle.tsb_step.specs.tsb_types.Lists.{first, run_from}
-use Rattle.tsb_step.specs.tsb_types.Sets.{all_off}
+use Rattle.tsb_step.specs.tsb_types.Lists.{run_from}
+use Rattle.tsb_step.proofs.tsb_types.FirstLemmas.{first-none}
+use Rattle.tsb_step.proofs.tsb_types.SetLemmas.{names-zero}
+use Rattle.tsb_step.specs.tsb_types.Sets.{all_off, has_number}
 use Rattle.tsb_step.specs.tsb_types.declared.interval.Interval.TheVariants.{Green}
 use Rattle.tsb_step.specs.tsb_types.declared.interval.PedestrianInterval.TheVariants.{DontWalk, Walk, PedestrianClear}
 use Rattle.tsb_step.specs.tsb_types.declared.row.Row.{Row}
@@ -13,7 +15,7 @@ use Rattle.tsb_step.specs.tsb_plan.declared.object.Object.{Object}
 use Rattle.tsb_step.specs.tsb_plan.declared.object.Object.TheVariants.{PhaseWalk, PhasePedestrianClear, PhaseRedClear, PatternOffsetTime, PhasePedestrianRecycle}
 use Rattle.tsb_step.specs.tsb_plan.Objects.{greatest}
 use Rattle.tsb_step.specs.tsb_plan.Parts.{cycle, preempt_delay}
-use Rattle.tsb_step.specs.tsb_plan.Plan.{Plan, walk, pedestrian_clear, rests_in_walk, with_values}
+use Rattle.tsb_step.specs.tsb_plan.Plan.{Plan, all_counts, walk, pedestrian_clear, rests_in_walk, with_values}
 use Rattle.tsb_step.specs.tsb_plan.Quad.{quad}
 use Rattle.tsb_step.specs.tsb_rules.Rules.{first_broken}
 use Rattle.tsb_step.specs.tsb_coord.declared.correction.Correction.{Correction}
@@ -60,9 +62,9 @@ walking_fits : Fits greatest walking.value
 unfolding walking
 walking_fits = values_fit greatest walking_values quad refl (quad_fits greatest refl refl)
 
-walking_count : walking.phase_count ≡ 16
+walking_count : (walking.phase_count ≡ 16) × (walking.counts ≡ all_counts)
 unfolding quad walking
-walking_count = refl
+walking_count = (refl, refl)
 
 walking_breaks_none : first_broken walking ≡ None
 unfolding opened walking
@@ -72,7 +74,7 @@ walking_consistent : IsConsistent walking
 walking_consistent = consistent greatest walking walking_count walking_breaks_none walking_fits
 
 few : walking.phase_count ≤ 16
-few = let count = walking_count in omega (arith, count)
+few = let count = walking_count.0 in omega (arith, count)
 
 abbrev started : List Input
 started = Tick all_off ∷ Pattern 1 ∷ []
@@ -139,11 +141,6 @@ record NoPreempt (w : Preempts) : Type 0 where
   switches : (n : ℕ) → w.switch n ≡ false
   served : w.service ≡ None
 
--- none of the four asks
-none_of_four : (test : ℕ → Bool) → test 1 ≡ false → test 2 ≡ false → test 3 ≡ false → test 4 ≡ false → first test (run_from 1 4) ≡ None
-unfolding run_from
-none_of_four test one two three four = rw (one, two, three, four) refl
-
 module _ (s : State) (it : NoPreempt s.preempts) where
   abbrev given : preempts.Given
   given = preempts_given s all_off
@@ -162,7 +159,7 @@ module _ (s : State) (it : NoPreempt s.preempts) where
   unfolding beginning requesting
   none_begins =
       ap (λ (o : Option ℕ). if_may_begin read.service o)
-      (none_of_four (requests s.plan given read) (none_asks 1 refl) (none_asks 2 refl) (none_asks 3 refl) (none_asks 4 refl))
+      (first-none (requests s.plan given read) (run_from 1 s.plan.counts.preempts) (λ n. none_asks n (and_right (preempts.is_preempt n) (has_number all_off.preempts n) (names-zero n))))
 
   none_is_served : new_service s all_off ≡ None
   unfolding new_service preempts.new_service

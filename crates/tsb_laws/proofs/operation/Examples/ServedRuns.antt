@@ -4,12 +4,12 @@ use Rattle.std.proofs.Common.{◌≡◌, ◌≢◌, ℕ, ◌+◌, ◌≤◌, ◌
 use Rattle.std.specs.List.{list_all}
 use Rattle.tsb_step.specs.tsb_types.declared.interval.Interval.TheVariants.{Green}
 use Rattle.tsb_step.specs.tsb_types.Lists.{among, some_passes, later}
-use Rattle.tsb_step.specs.tsb_types.Sets.{all_off, set_of_list}
+use Rattle.tsb_step.specs.tsb_types.Sets.{all_off, set_of_detectors}
 use Rattle.tsb_step.specs.tsb_types.declared.row.Row.{Row}
 use Rattle.tsb_step.specs.tsb_plan.declared.object.Object.TheVariants.{PhaseEnabled, PhaseRing, PhaseSide, PhaseConcurrency, SequenceData, PhaseMinimumGreen, PhaseMaximum1, PhaseMaximum2, PhaseMaximumInitial, PhasePassage, PhaseMinimumGap, PhaseWalk, PhasePedestrianClear, PhaseYellowChange, PhaseRedClear, PhaseRedRevert, VehicleDetectorCallPhase, UnitRedRevert, PhaseDynamicMaxLimit, UnitMax2}
 use Rattle.tsb_step.specs.tsb_plan.declared.object.Object.{Object}
 use Rattle.tsb_step.specs.tsb_plan.Objects.{greatest}
-use Rattle.tsb_step.specs.tsb_plan.Plan.{Plan, empty, phases, with_values, side_of, has_variable_initial, minimum_green, maximum_initial, maximum, walk, pedestrian_clear}
+use Rattle.tsb_step.specs.tsb_plan.Plan.{Plan, all_counts, empty, phases, with_values, side_of, has_variable_initial, minimum_green, maximum_initial, maximum, walk, pedestrian_clear}
 use Rattle.tsb_step.specs.tsb_rules.Rules.{first_broken}
 use Rattle.tsb_step.specs.tsb_phase.DynamicMaximum.{is_dynamic, highest_maximum}
 use Rattle.tsb_step.specs.tsb_phase.Phase.{held_of}
@@ -71,9 +71,9 @@ brisk_fits : Fits limit brisk.value
 unfolding brisk
 brisk_fits = values_alone_fit limit brisk_values refl
 
-pub brisk_count : brisk.phase_count ≡ 16
+pub brisk_count : (brisk.phase_count ≡ 16) × (brisk.counts ≡ all_counts)
 unfolding brisk
-brisk_count = refl
+brisk_count = (refl, refl)
 
 brisk_breaks_none : first_broken brisk ≡ None
 unfolding opened brisk
@@ -83,7 +83,7 @@ pub brisk_consistent : IsConsistent brisk
 brisk_consistent = consistent limit brisk brisk_count brisk_breaks_none brisk_fits
 
 brisk_few : brisk.phase_count ≤ 16
-brisk_few = let count = brisk_count in omega (arith, count)
+brisk_few = let count = brisk_count.0 in omega (arith, count)
 
 brisk_together : list_all (goes_with_all brisk) (phases brisk) ≡ true
 unfolding opened brisk
@@ -126,7 +126,7 @@ abbrev pub alone : List Input
 alone = ticks (vehicle 1) 2
 
 abbrev pub cars : Row
-cars = record all_off { vehicles = set_of_list 11 }
+cars = record all_off { vehicles = set_of_detectors 11 }
 
 -- the run so many ticks later
 abbrev pub run : ℕ → List Input
@@ -231,7 +231,7 @@ comes_2 = refl
 -- ring 1 has started 1, and 2 is still to come
 record AtFirst : Type 0 where
   ringed : in_ring (replay brisk alone).plan Ring1 2 ≡ true
-  beside : side_of (replay brisk alone).plan 2 ≡ (replay brisk alone).rings.side
+  own_side : side_of (replay brisk alone).plan 2 ≡ 1
   outside : (replay brisk alone).rings.crossing ≡ None
   there : among 2 (still_to_come (replay brisk alone) Ring1) ≡ true
   none_clears : some_passes (is_clearing (replay brisk alone)) (phases (replay brisk alone).plan) ≡ false
@@ -241,12 +241,12 @@ record AtFirst : Type 0 where
 
 at_first : AtFirst
 unfolding opened brisk
-at_first = record { ringed = refl; beside = refl; outside = refl; there = refl; none_clears = refl; across = refl; side = refl; ringed_4 = refl }
+at_first = record { ringed = refl; own_side = refl; outside = refl; there = refl; none_clears = refl; across = refl; side = refl; ringed_4 = refl }
 
 to_come : IsToCome (replay brisk alone) Ring1 2
 to_come = record {
   ringed = at_first.ringed;
-  beside = at_first.beside;
+  beside = at_first.own_side ∙ sym at_first.side;
   outside = at_first.outside;
   ahead = inr at_first.there;
   bound = λ p own serves pale.

@@ -6,7 +6,7 @@ use Rattle.tsb_step.specs.tsb_types.declared.row.Row.{Row}
 use Rattle.tsb_step.specs.tsb_plan.declared.object.Object.{Object}
 use Rattle.tsb_step.specs.tsb_plan.declared.object.Object.TheVariants.{PreemptDwellPhase}
 use Rattle.tsb_step.specs.tsb_plan.Objects.{greatest}
-use Rattle.tsb_step.specs.tsb_plan.Plan.{Plan, with_values}
+use Rattle.tsb_step.specs.tsb_plan.Plan.{Plan, all_counts, with_values}
 use Rattle.tsb_step.specs.tsb_plan.Quad.{quad}
 use Rattle.tsb_step.specs.tsb_rules.Rules.{first_broken}
 use Rattle.tsb_step.specs.tsb_ring.declared.want.Want.{Want}
@@ -35,9 +35,9 @@ near_fits : Fits greatest near.value
 unfolding near
 near_fits = values_fit greatest near_values quad refl (quad_fits greatest refl refl)
 
-near_count : near.phase_count ≡ 16
+near_count : (near.phase_count ≡ 16) × (near.counts ≡ all_counts)
 unfolding quad near
-near_count = refl
+near_count = (refl, refl)
 
 breaks_none : first_broken near ≡ None
 unfolding opened near
@@ -77,7 +77,7 @@ record Start (plan : Plan) (is : List Input) (row : Row) (n : ℕ) (r : Ring) (p
 a_start : Start near switched all_off 1 Ring1 1
 a_start = record {
   consistent = consistent greatest near near_count breaks_none near_fits;
-  few = (let count = near_count in omega (arith, count));
+  few = (let count = near_count.0 in omega (arith, count));
   taken = taken;
   untripped = dark;
   served = serves_1;

@@ -181,7 +181,7 @@ lasts-none s o h =
 
 lasts-not : (s : State) → has_no_overlaps s.plan ≡ true → is_lasting s ≡ false
 unfolding some_lasts
-lasts-not s all = none-of-all (lasts s.plan (shown s)) (includes_none s.plan) (lasts-none s) (run_from 1 4) all
+lasts-not s all = none-of-all (lasts s.plan (shown s)) (includes_none s.plan) (lasts-none s) (run_from 1 s.plan.counts.overlaps) all
 
 -- ## A preempt that chooses anew
 

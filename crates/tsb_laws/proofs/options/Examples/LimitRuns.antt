@@ -36,6 +36,7 @@ a_run = record {
   differ = record {
     phase_count = refl;
     side_count = refl;
+    counts = refl;
     value = λ o i out. ap (λ (b : Bool). if b then 20 else quad.value o i) out ∙ sym (ap (λ (b : Bool). if b then 10 else quad.value o i) out);
   };
   at_once = ((((tt, refl), refl), refl), refl);

@@ -53,7 +53,7 @@ record OffsetRun (x y : Plan) (is : List Input) : Type 0 where
 a_run : OffsetRun to_green at_local_0 selected
 unfolding opened to_green
 a_run = record {
-  differ = record { phase_count = refl; side_count = refl; value = λ o i out. at o i out };
+  differ = record { phase_count = refl; side_count = refl; counts = refl; value = λ o i out. at o i out };
   read = (((tt, (λ n. refl)), (λ n. refl)), (λ n. refl));
   last = λ n. refl;
 }

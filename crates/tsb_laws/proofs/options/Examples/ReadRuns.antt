@@ -53,6 +53,7 @@ a_read = record {
   differ = record {
     phase_count = refl;
     side_count = refl;
+    counts = refl;
     value = λ o i out. ap (λ (b : Bool). if b then options o i else quad.value o i) out;
   };
   sets = (tt, (tt, (tt, (tt, (tt, (tt, (tt, (refl, (tt, tt)))))))));
@@ -150,6 +151,7 @@ read_alone = record {
   differ = record {
     phase_count = refl;
     side_count = refl;
+    counts = refl;
     value = λ o i out. ap (λ (b : Bool). if b then alone o i else quad.value o i) out;
   };
   sets = (tt, (tt, (tt, (tt, (tt, (tt, (tt, ((λ option. cc), (tt, tt)))))))));

@@ -1,7 +1,7 @@
 -- A run from power-up that meets all premises of the law of all red, and a mistake that the law refuses.
 use Rattle.std.proofs.Common.{◌≡◌, ℕ, zero, suc, ◌+◌, ◌≤◌, ◌==◌, Bool, true, false, not, ◌&&◌, ◌||◌, List, [], ◌∷◌, ◌++◌, Option, Some, None, refl, ap, ap₂, arith, ◌∙◌}
 use Rattle.std.proofs.lemmas.Bool.{and_parts}
-use Rattle.tsb_step.specs.tsb_types.Sets.{all_off, set_of_list}
+use Rattle.tsb_step.specs.tsb_types.Sets.{all_off, set_of_detectors}
 use Rattle.tsb_step.specs.tsb_types.Intervals.{in_service}
 use Rattle.tsb_step.specs.tsb_types.Lists.{some_passes}
 use Rattle.tsb_step.specs.tsb_types.declared.interval.Interval.{Interval}
@@ -10,7 +10,7 @@ use Rattle.tsb_step.specs.tsb_types.declared.row.Row.{Row}
 use Rattle.tsb_step.specs.tsb_plan.declared.object.Object.{Object}
 use Rattle.tsb_step.specs.tsb_plan.declared.object.Object.TheVariants.{PhaseEnabled, PhaseRing, PhaseSide, PhaseMaximum1, PhaseMaximum2, PhaseYellowChange, PhaseRedRevert, UnitRedRevert, VehicleDetectorCallPhase, SequenceData}
 use Rattle.tsb_step.specs.tsb_plan.Objects.{greatest}
-use Rattle.tsb_step.specs.tsb_plan.Plan.{Plan, empty, phases, side_of, red_revert, with_values}
+use Rattle.tsb_step.specs.tsb_plan.Plan.{Plan, all_counts, empty, phases, side_of, red_revert, with_values}
 use Rattle.tsb_step.specs.tsb_rules.Rules.{first_broken}
 use Rattle.tsb_step.specs.tsb_ring.declared.want.Want.{Want}
 use Rattle.tsb_step.specs.tsb_ring.declared.want.Want.TheVariants.{Cross}
@@ -63,9 +63,9 @@ fits_table : Fits greatest reverting.value
 unfolding reverting
 fits_table = values_alone_fit greatest reverting_values refl
 
-reverting_count : reverting.phase_count ≡ 16
+reverting_count : (reverting.phase_count ≡ 16) × (reverting.counts ≡ all_counts)
 unfolding reverting
-reverting_count = refl
+reverting_count = (refl, refl)
 
 reverting_sides : reverting.side_count ≡ 4
 unfolding reverting
@@ -80,7 +80,7 @@ reverting_consistent = consistent limit reverting reverting_count breaks_none re
 
 -- a car has come to 2 and one to 4 in tick 1, and from tick 3 on one is at 2: 2 is Green in tick 1, and 4 in tick 32
 abbrev both : Row
-both = record all_off { vehicles = set_of_list 10 }
+both = record all_off { vehicles = set_of_detectors 10 }
 
 abbrev pub came : List Input
 came = ticks all_off 1 ++ ticks both 1
@@ -163,7 +163,7 @@ record AllRed (plan : Plan) (base later : List Input) (n : ℕ) : Type 0 where
 
 -- with 16 phases and 4 sides the greatest values are those of the table of objects
 same_greatest_of : (o : Object) → greatest_of reverting o ≡ greatest o
-same_greatest_of o = ap₂ (λ (n d : ℕ). greatest_for n d o) reverting_count reverting_sides ∙ same_greatest o
+same_greatest_of o = ap₂ (λ (n d : ℕ). greatest_for n d o) reverting_count.0 reverting_sides ∙ same_greatest o
 
 base_plan : (replay reverting base).plan ≡ reverting
 base_plan = plan_then reverting (vehicle 2) came 61 ∙ (plan_then reverting all_off (ticks both 1) 1 ∙ plan_then reverting both [] 1)
@@ -179,7 +179,7 @@ an_all_red : AllRed reverting base (ticks (vehicle 2) 18) 50
 an_all_red = record {
   consistent = reverting_consistent;
   range = λ o i. (let most : reverting.value o i ≤ greatest o = fits_table.bounded o i in let same = same_greatest_of o in omega (arith, most, same));
-  few = (let count = reverting_count in omega (arith, count));
+  few = (let count = reverting_count.0 in omega (arith, count));
   taken = taken_18;
   untripped = none_trips reverting (vehicle 2) base reverting_consistent base_taken base_unlit 18 in_time;
   red = been_red 18 taken_18

@@ -6,7 +6,7 @@ use Rattle.tsb_step.specs.tsb_types.declared.interval.Interval.TheVariants.{Gree
 use Rattle.tsb_step.specs.tsb_types.declared.row.Row.{Row}
 use Rattle.tsb_step.specs.tsb_plan.declared.object.Object.{Object}
 use Rattle.tsb_step.specs.tsb_plan.declared.object.Object.TheVariants.{PhaseMinRecall, PhasePedRecall, PhaseMinimumGreen, PhasePassage, PhaseMinimumGap, PreemptChoosesAnew}
-use Rattle.tsb_step.specs.tsb_plan.Plan.{Plan, is_concurrent, yellow_change, red_clear, red_revert, with_values}
+use Rattle.tsb_step.specs.tsb_plan.Plan.{Plan, all_counts, is_concurrent, yellow_change, red_clear, red_revert, with_values}
 use Rattle.tsb_step.specs.tsb_plan.Quad.{quad}
 use Rattle.tsb_step.specs.tsb_rules.Rules.{first_broken}
 use Rattle.tsb_step.specs.tsb_ring.Rings.{Ring, Ring1, in_ring}
@@ -84,9 +84,9 @@ brief_fits : Fits no_choice brief.value
 unfolding brief
 brief_fits = values_fit no_choice brief_values quad refl (quad_fits no_choice refl refl)
 
-brief_count : brief.phase_count ≡ 16
+brief_count : (brief.phase_count ≡ 16) × (brief.counts ≡ all_counts)
 unfolding quad brief
-brief_count = refl
+brief_count = (refl, refl)
 
 breaks_none : first_broken brief ≡ None
 unfolding opened brief
@@ -109,7 +109,7 @@ ticked_2 = refl
 pub brief_known : IsKnown brief ended
 brief_known = record {
   consistent = consistent no_choice brief brief_count breaks_none brief_fits;
-  few = (let count = brief_count in omega (arith, count));
+  few = (let count = brief_count.0 in omega (arith, count));
   taken = taken;
   unlit = unlit;
   early = (let now = ticked_2 in omega (arith, now));

@@ -9,7 +9,7 @@ use Rattle.tsb_step.specs.tsb_types.declared.row.Row.{Row}
 use Rattle.tsb_step.specs.tsb_plan.declared.object.Object.{Object}
 use Rattle.tsb_step.specs.tsb_plan.declared.object.Object.TheVariants.{PhaseMinRecall, PhaseMinimumGreen, PhaseYellowChange, PatternOffsetTime, SplitMode, CoordCorrectionMode, CoordCorrectionLimit}
 use Rattle.tsb_step.specs.tsb_plan.Objects.{greatest}
-use Rattle.tsb_step.specs.tsb_plan.Plan.{Plan, is_enabled, with_values}
+use Rattle.tsb_step.specs.tsb_plan.Plan.{Plan, all_counts, is_enabled, with_values}
 use Rattle.tsb_step.specs.tsb_plan.Quad.{quad}
 use Rattle.tsb_step.specs.tsb_rules.Rules.{first_broken}
 use Rattle.tsb_step.specs.tsb_coord.Coordinated.{force_off, is_at_force_off}
@@ -43,9 +43,9 @@ early_fits : Fits greatest early.value
 unfolding early
 early_fits = values_fit greatest early_values quad refl (quad_fits greatest refl refl)
 
-early_count : early.phase_count ≡ 16
+early_count : (early.phase_count ≡ 16) × (early.counts ≡ all_counts)
 unfolding quad early
-early_count = refl
+early_count = (refl, refl)
 
 early_breaks_none : first_broken early ≡ None
 unfolding opened early
@@ -100,7 +100,7 @@ record Coordination (plan : Plan) (is : List Input) (row : Row) (p : ℕ) : Type
 a_coordination : Coordination early selected (vehicle 1) 2
 a_coordination = record {
   consistent = early_consistent;
-  few = (let count = early_count in omega (arith, count));
+  few = (let count = early_count.0 in omega (arith, count));
   taken = selected_taken;
   untripped = selected_dark;
   ended = record { was_green = was_green; ends = λ h. (let bad : Yellow ≡ Green = sym ends ∙ h in absurd cc) };
@@ -155,9 +155,9 @@ pub faster_fits : Fits greatest faster.value
 unfolding faster
 faster_fits = values_fit greatest faster_values quad refl (quad_fits greatest refl refl)
 
-pub faster_count : faster.phase_count ≡ 16
+pub faster_count : (faster.phase_count ≡ 16) × (faster.counts ≡ all_counts)
 unfolding quad faster
-faster_count = refl
+faster_count = (refl, refl)
 
 pub faster_sides : faster.side_count ≡ 4
 unfolding quad faster
@@ -216,7 +216,7 @@ none_in_service = refl
 a_faster_one : Coordination faster selected_again (vehicle 1) 2
 a_faster_one = record {
   consistent = faster_consistent;
-  few = (let count = faster_count in omega (arith, count));
+  few = (let count = faster_count.0 in omega (arith, count));
   taken = again_taken;
   untripped = again_dark;
   ended = record { was_green = green_at_751; ends = λ h. (let bad : Yellow ≡ Green = sym yellow_at_753 ∙ h in absurd cc) };
@@ -258,9 +258,9 @@ pub omits_fits : Fits greatest omits.value
 unfolding omits
 omits_fits = values_fit greatest omits_values quad refl (quad_fits greatest refl refl)
 
-pub omits_count : omits.phase_count ≡ 16
+pub omits_count : (omits.phase_count ≡ 16) × (omits.counts ≡ all_counts)
 unfolding quad omits
-omits_count = refl
+omits_count = (refl, refl)
 
 pub omits_sides : omits.side_count ≡ 4
 unfolding quad omits
@@ -316,7 +316,7 @@ record Omission (plan : Plan) (is : List Input) (row : Row) (q : ℕ) : Type 0 w
 an_omission : Omission omits crossing all_off 3
 an_omission = record {
   consistent = omits_consistent;
-  few = (let count = omits_count in omega (arith, count));
+  few = (let count = omits_count.0 in omega (arith, count));
   taken = crossing_taken;
   untripped = crossing_dark;
   omitted = is_omitted;

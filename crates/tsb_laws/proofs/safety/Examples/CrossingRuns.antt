@@ -6,7 +6,7 @@ use Rattle.tsb_step.specs.tsb_types.Intervals.{in_service}
 use Rattle.tsb_step.specs.tsb_plan.declared.object.Object.{Object}
 use Rattle.tsb_step.specs.tsb_plan.declared.object.Object.TheVariants.{PhaseYellowChange, PhaseRedClear, PhaseRedRevert, UnitRedRevert, PhasePedRecall, PreemptMinimumGreen, PreemptMinimumWalk, PreemptEnterPedClear, PreemptChoosesAnew}
 use Rattle.tsb_step.specs.tsb_plan.Objects.{greatest}
-use Rattle.tsb_step.specs.tsb_plan.Plan.{Plan, yellow_change, red_clear, red_revert, with_values}
+use Rattle.tsb_step.specs.tsb_plan.Plan.{Plan, all_counts, yellow_change, red_clear, red_revert, with_values}
 use Rattle.tsb_step.specs.tsb_plan.Quad.{quad}
 use Rattle.tsb_step.specs.tsb_rules.Rules.{first_broken}
 use Rattle.tsb_step.specs.tsb_ring.Rings.{Ring, Ring1}
@@ -46,9 +46,9 @@ quick_fits : Fits limit quick.value
 unfolding quick
 quick_fits = values_fit limit quick_values quad refl (quad_fits limit refl refl)
 
-quick_count : quick.phase_count ≡ 16
+quick_count : (quick.phase_count ≡ 16) × (quick.counts ≡ all_counts)
 unfolding quad quick
-quick_count = refl
+quick_count = (refl, refl)
 
 breaks_none : first_broken quick ≡ None
 unfolding opened quick
@@ -78,7 +78,7 @@ same_plan = plan_stays (replay quick (Switch 1 true ∷ walked)) all_off ∙ pla
 pub known : IsKnown quick crossed
 known = record {
   consistent = consistent limit quick quick_count breaks_none quick_fits;
-  few = (let count = quick_count in omega (arith, count));
+  few = (let count = quick_count.0 in omega (arith, count));
   taken = taken;
   unlit = unlit;
   early = (let now = ticked_2 in omega (arith, now));

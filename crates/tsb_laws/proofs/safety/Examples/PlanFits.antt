@@ -6,7 +6,7 @@ use Rattle.std.proofs.lemmas.Bool.{and_parts, leb-true, true≢false}
 use Rattle.tsb_step.specs.tsb_plan.declared.object.Object.{Object}
 use Rattle.tsb_step.specs.tsb_plan.declared.object.Object.TheVariants.{PreemptChoosesAnew}
 use Rattle.tsb_step.specs.tsb_plan.Objects.{has_index, greatest}
-use Rattle.tsb_step.specs.tsb_plan.Plan.{Plan, empty, is_same, with_value, with_values}
+use Rattle.tsb_step.specs.tsb_plan.Plan.{Plan, Counts, all_counts, empty, is_same, with_value, with_values}
 use Rattle.tsb_step.specs.tsb_plan.Quad.{row, with_rows, quad_rows, quad_values, quad}
 use Rattle.tsb_step.proofs.tsb_plan.TableLemmas.{order-injective}
 use Rattle.tsb_step.proofs.tsb_plan.PlanLemmas.{same-parts}
@@ -70,20 +70,20 @@ quad_fits limit rows values =
     (rows_fit limit quad_rows empty rows (record { none = λ o i out. refl; bounded = λ o i. omega arith }))
 
 -- a plan of 16 phases that fits and breaks no rule is one of those that the laws of runs speak of
-pub consistent : (limit : Object → ℕ) (plan : Plan) → plan.phase_count ≡ 16 → first_broken plan ≡ None → Fits limit plan.value → IsConsistent plan
+pub consistent : (limit : Object → ℕ) (plan : Plan) → (plan.phase_count ≡ 16) × (plan.counts ≡ all_counts) → first_broken plan ≡ None → Fits limit plan.value → IsConsistent plan
 consistent limit plan count rules fits = record {
   rules = rules;
   placed = λ o i out. fits.none o i (sym (ap (λ (n : ℕ). nat_le 1 i && nat_le i n) (same_indices o)) ∙ sym (here o i) ∙ out);
 }
   where
-    here : (o : Object) (i : ℕ) → has_place plan o i ≡ (nat_le 1 i && nat_le i (indices_for 16 o))
-    here o i = ap (λ (n : ℕ). nat_le 1 i && nat_le i (indices_for n o)) count
+    here : (o : Object) (i : ℕ) → has_place plan o i ≡ (nat_le 1 i && nat_le i (indices_for 16 all_counts o))
+    here o i = ap₂ (λ (n : ℕ) (c : Counts). nat_le 1 i && nat_le i (indices_for n c o)) count.0 count.1
 
 -- ## The built-in plan
 
-pub quad_count : quad.phase_count ≡ 16
+pub quad_count : (quad.phase_count ≡ 16) × (quad.counts ≡ all_counts)
 unfolding quad
-quad_count = refl
+quad_count = (refl, refl)
 
 -- it breaks no rule
 pub quad_breaks_none : first_broken quad ≡ None

@@ -8,7 +8,7 @@ use Rattle.tsb_step.specs.tsb_types.declared.interval.PedestrianInterval.TheVari
 use Rattle.tsb_step.specs.tsb_types.declared.row.Row.{Row}
 use Rattle.tsb_step.specs.tsb_plan.declared.object.Object.{Object}
 use Rattle.tsb_step.specs.tsb_plan.declared.object.Object.TheVariants.{PhaseWalk, PhasePedestrianClear, PhasePedRecall, PhaseMinimumGreen, PhasePassage, PhaseMinimumGap, PreemptChoosesAnew}
-use Rattle.tsb_step.specs.tsb_plan.Plan.{Plan, is_concurrent, yellow_change, red_clear, red_revert, with_values}
+use Rattle.tsb_step.specs.tsb_plan.Plan.{Plan, all_counts, is_concurrent, yellow_change, red_clear, red_revert, with_values}
 use Rattle.tsb_step.specs.tsb_plan.Quad.{quad}
 use Rattle.tsb_step.specs.tsb_rules.Rules.{first_broken}
 use Rattle.tsb_step.specs.tsb_ring.Rings.{Ring1, in_ring}
@@ -38,9 +38,9 @@ strolling_fits : Fits no_choice strolling.value
 unfolding strolling
 strolling_fits = values_fit no_choice strolling_values quad refl (quad_fits no_choice refl refl)
 
-strolling_count : strolling.phase_count ≡ 16
+strolling_count : (strolling.phase_count ≡ 16) × (strolling.counts ≡ all_counts)
 unfolding quad strolling
-strolling_count = refl
+strolling_count = (refl, refl)
 
 breaks_none : first_broken strolling ≡ None
 unfolding opened strolling
@@ -139,7 +139,7 @@ commits_to_1 = record {
 known : IsKnown strolling (mid ++ walked)
 known = record {
   consistent = strolling_consistent;
-  few = (let count = strolling_count in omega (arith, count));
+  few = (let count = strolling_count.0 in omega (arith, count));
   taken = all_taken strolling (vehicle 1) walked 20 taken_1 (let at = ticked_1 in omega (arith, at));
   unlit = unlit_then strolling (vehicle 1) walked 20 unlit_1;
   early = (let at = ticked_1 in let clock = now_then strolling (vehicle 1) walked 20 in omega (arith, at, clock));

@@ -14,7 +14,7 @@ use Rattle.tsb_step.specs.declared.inputs.Input.TheVariants.{Clock, Pattern}
 use Rattle.tsb_step.specs.Runs.{replay}
 use Rattle.tsb_step.proofs.Examples.Scenes as scenes
 use Rattle.tsb_dialog.specs.Said.{with_feed}
-use Rattle.tsb_text.specs.Answers.{Setup, display_line, follower, next_tick, refused_after}
+use Rattle.tsb_text.specs.Answers.{Setup, line_in, follower, next_tick, refused_after}
 use Rattle.tsb_text.specs.Obeys.{news, nothing_besides, trail}
 use Rattle.tsb_text.specs.declared.task.Task.TheVariants.{Ticks}
 use Rattle.tsb_text.specs.recording.Leaves.{LeavesOf}
@@ -40,7 +40,7 @@ abbrev pub before_one : ℕ
 before_one = 20 * DAY + 599
 
 abbrev pub given : Setup
-given = record { plan = scheduled; log = []; acts = true }
+given = record { plan = scheduled; log = []; acts = true; is_wide = false }
 
 -- the clock is set, and the pattern that follows that
 abbrev pub is_set : List Input
@@ -61,7 +61,7 @@ tick_selects_1 = refl
 abbrev said : List ℕ
 said =
     (news nothing_besides.tells given is_set tick ++ trail nothing_besides.tells given (tick ∷ is_set) (follower given is_set tick) None)
-    ++ (with_feed (display_line (replay given.plan (tick ∷ is_set))) ++ (refused_after nothing_besides.echo None ++ []))
+    ++ (with_feed (line_in given.is_wide (replay given.plan (tick ∷ is_set))) ++ (refused_after nothing_besides.echo None ++ []))
 
 at_a_minute : LeavesOf given is_set (Ticks 1) None (Pattern 1 ∷ tick ∷ is_set)
 unfolding opened

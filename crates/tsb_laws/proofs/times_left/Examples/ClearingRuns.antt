@@ -8,7 +8,7 @@ use Rattle.tsb_step.specs.tsb_types.Sets.{all_off}
 use Rattle.tsb_step.specs.tsb_plan.declared.object.Object.{Object}
 use Rattle.tsb_step.specs.tsb_plan.declared.object.Object.TheVariants.{PreemptMinimumGreen, PreemptDwellPhase}
 use Rattle.tsb_step.specs.tsb_plan.Objects.{greatest}
-use Rattle.tsb_step.specs.tsb_plan.Plan.{Plan, yellow_change, red_clear, with_values}
+use Rattle.tsb_step.specs.tsb_plan.Plan.{Plan, all_counts, yellow_change, red_clear, with_values}
 use Rattle.tsb_step.specs.tsb_plan.Quad.{quad}
 use Rattle.tsb_step.specs.tsb_rules.Rules.{first_broken}
 use Rattle.tsb_step.specs.tsb_ring.Rings.{Ring1}
@@ -39,9 +39,9 @@ ending_fits : Fits greatest ending.value
 unfolding ending
 ending_fits = values_fit greatest ending_values quad refl (quad_fits greatest refl refl)
 
-ending_count : ending.phase_count ≡ 16
+ending_count : (ending.phase_count ≡ 16) × (ending.counts ≡ all_counts)
 unfolding quad ending
-ending_count = refl
+ending_count = (refl, refl)
 
 breaks_none : first_broken ending ≡ None
 unfolding opened ending

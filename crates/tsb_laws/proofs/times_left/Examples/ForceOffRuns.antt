@@ -7,7 +7,7 @@ use Rattle.tsb_step.specs.tsb_plan.declared.object.Object.TheVariants.{PatternOf
 use Rattle.tsb_step.specs.tsb_plan.Objects.{greatest}
 use Rattle.tsb_step.specs.tsb_plan.Parts.{cycle}
 use Rattle.tsb_step.specs.tsb_objects.Instants.{offset_in_effect}
-use Rattle.tsb_step.specs.tsb_plan.Plan.{Plan, with_values}
+use Rattle.tsb_step.specs.tsb_plan.Plan.{Plan, all_counts, with_values}
 use Rattle.tsb_step.specs.tsb_plan.Quad.{quad}
 use Rattle.tsb_step.specs.tsb_rules.Rules.{first_broken}
 use Rattle.tsb_step.specs.tsb_coord.declared.correction.Correction.{Correction}
@@ -37,9 +37,9 @@ near_fits : Fits greatest near.value
 unfolding near
 near_fits = values_fit greatest near_values quad refl (quad_fits greatest refl refl)
 
-near_count : near.phase_count ≡ 16
+near_count : (near.phase_count ≡ 16) × (near.counts ≡ all_counts)
 unfolding quad near
-near_count = refl
+near_count = (refl, refl)
 
 breaks_none : first_broken near ≡ None
 unfolding opened near

@@ -12,7 +12,7 @@ use Rattle.tsb_step.specs.tsb_types.declared.row.Row.{Row}
 use Rattle.tsb_step.specs.tsb_plan.declared.object.Object.{Object}
 use Rattle.tsb_step.specs.tsb_plan.declared.object.Object.TheVariants.{PhaseWalk, PhasePedestrianClear, PhasePedRecall, PhaseMinimumGreen, PhaseMaximum1, PhasePassage, PhaseMinimumGap}
 use Rattle.tsb_step.specs.tsb_plan.Objects.{greatest}
-use Rattle.tsb_step.specs.tsb_plan.Plan.{Plan, with_values}
+use Rattle.tsb_step.specs.tsb_plan.Plan.{Plan, all_counts, with_values}
 use Rattle.tsb_step.specs.tsb_plan.Quad.{quad}
 use Rattle.tsb_step.specs.tsb_phase.Green.{gap, reduction_timer, acting_maximum}
 use Rattle.tsb_step.specs.tsb_phase.Pedestrian.{ended_by, walk_time, clearance_time, is_resting_in_walk}
@@ -46,9 +46,9 @@ leaving_fits : Fits greatest leaving.value
 unfolding leaving
 leaving_fits = values_fit greatest leaving_values quad refl (quad_fits greatest refl refl)
 
-leaving_count : leaving.phase_count ≡ 16
+leaving_count : (leaving.phase_count ≡ 16) × (leaving.counts ≡ all_counts)
 unfolding quad leaving
-leaving_count = refl
+leaving_count = (refl, refl)
 
 breaks_none : first_broken leaving ≡ None
 unfolding opened leaving

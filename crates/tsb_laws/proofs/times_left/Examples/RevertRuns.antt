@@ -9,7 +9,7 @@ use Rattle.tsb_step.specs.tsb_types.declared.row.Row.{Row}
 use Rattle.tsb_step.specs.tsb_plan.declared.object.Object.{Object}
 use Rattle.tsb_step.specs.tsb_plan.declared.object.Object.TheVariants.{PhaseRedClear, PreemptMinimumGreen, PreemptDwellPhase}
 use Rattle.tsb_step.specs.tsb_plan.Objects.{greatest}
-use Rattle.tsb_step.specs.tsb_plan.Plan.{Plan, red_revert, with_values}
+use Rattle.tsb_step.specs.tsb_plan.Plan.{Plan, all_counts, red_revert, with_values}
 use Rattle.tsb_step.specs.tsb_plan.Quad.{quad}
 use Rattle.tsb_step.specs.tsb_rules.Rules.{first_broken}
 use Rattle.tsb_step.specs.declared.inputs.Input.{Input}
@@ -38,9 +38,9 @@ again_fits : Fits greatest again.value
 unfolding again
 again_fits = values_fit greatest again_values quad refl (quad_fits greatest refl refl)
 
-again_count : again.phase_count ≡ 16
+again_count : (again.phase_count ≡ 16) × (again.counts ≡ all_counts)
 unfolding quad again
-again_count = refl
+again_count = (refl, refl)
 
 breaks_none : first_broken again ≡ None
 unfolding opened again

@@ -60,8 +60,9 @@ two-sides = refl
 pub held : IsHeld two
 held = record {
   consistent = two_consistent;
-  phases = two_count;
+  phases = two_count.0;
   sides = two-sides;
+  counts = two_count.1;
   bounded = two-fits.bounded;
 }
 
@@ -96,7 +97,7 @@ runs_on = refl
 
 pub comes_into_step : IsRun faster selected_again
 comes_into_step = record {
-  plan_held = record { consistent = faster_consistent; phases = faster_count; sides = faster_sides; bounded = faster_fits.bounded };
+  plan_held = record { consistent = faster_consistent; phases = faster_count.0; sides = faster_sides; counts = faster_count.1; bounded = faster_fits.bounded };
   taken = again_taken;
   typed = (tt, (tt, (tt, tt)));
 }

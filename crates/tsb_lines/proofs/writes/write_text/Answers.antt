@@ -8,3 +8,6 @@ loop-gone-preserved g c = record {
       c.loop-gone.invariant.going c.in-Ok.ensures.bytes;
   within = search rules;
 }
+
+pub returns-in-Ok-eq0-clause-whole : goal.returns-in-Ok-eq0-clause-whole
+returns-in-Ok-eq0-clause-whole g c = search rules fits 100

@@ -22,7 +22,7 @@ pub returns-clause-ended : goal.returns-clause-ended
 returns-clause-ended g c = rw c.ended_with.ensures
     (live-ended c.converse-ended.result c.converse-ended.new.answers.stop c.args.on_fault c.args.acts (checked_plan c.args.plan) _ _ _ _
     (ended-stopped c.converse-ended.result KEPT BYTES StandsLive Says (begun c.args.on_fault c.args.acts (checked_plan c.args.plan)) c.converse-ended.new.answers (stop_in c.converse-ended.new.answers.stop) _ _ _ _ (λ s stands. stands.stop)
-    (c.converse-ended.ensures.ended (begun c.args.on_fault c.args.acts (checked_plan c.args.plan)) (run-begins c.args.on_fault c.args.acts (checked_plan c.args.plan) _ c.new.ensures.mode refl (subst (λ (b : Held). Follows (checked_plan c.args.plan) (whole b) []) (sym c.new.ensures.bench) (follows-start controller (start (checked_plan c.args.plan)) (whole c.in-Ok.bench) c.in-Ok.ensures)) (c.new.ensures.rows ∙ ap (λ (r : Row). rows_in (HeldRow r)) c.all_off.ensures.same) c.new.ensures.kept c.new.ensures.told c.new.ensures.acts refl refl))))
+    (c.converse-ended.ensures.ended (begun c.args.on_fault c.args.acts (checked_plan c.args.plan)) (run-begins c.args.on_fault c.args.acts (checked_plan c.args.plan) _ c.new.ensures.mode refl (subst (λ (b : Held). Follows (checked_plan c.args.plan) (whole b) []) (sym c.new.ensures.bench) (follows-start controller (start (checked_plan c.args.plan)) (whole c.in-Ok.bench) c.in-Ok.ensures)) (c.new.ensures.rows ∙ ap (λ (r : Row). rows_in (HeldRow r)) c.all_off.ensures.same) c.new.ensures.kept c.new.ensures.told c.new.ensures.acts c.new.ensures.wide refl refl))))
 
 pub returns-clause-blame : goal.returns-clause-blame
 returns-clause-blame g c = rw c.ended_with.ensures (live-blames c.converse-ended.result c.converse-ended.new.answers.stop _ _ _ c.converse-ended.ensures.blame)

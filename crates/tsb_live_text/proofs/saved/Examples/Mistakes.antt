@@ -6,7 +6,7 @@ use Rattle.json.specs.Lex.{lex, punctuate}
 use Rattle.json.specs.Print.{escape_byte, print_from}
 use Rattle.json.specs.Text.{content}
 use Rattle.tsb_lines.specs.Lines.{HasNoFeed}
-use Rattle.tsb_text.specs.tsb_types.Sets.{all_off, set_of_list}
+use Rattle.tsb_text.specs.tsb_types.Sets.{all_off, set_of_detectors, set_of_list}
 use Rattle.tsb_text.specs.tsb_types.declared.row.Row.{Row}
 use Rattle.tsb_text.specs.tsb_step.tsb_plan.Names.{object_named}
 use Rattle.tsb_text.specs.tsb_step.tsb_plan.Objects.{objects}
@@ -21,7 +21,9 @@ use Rattle.tsb_command_text.specs.declared.command.Command.{Command}
 use Rattle.tsb_command_text.specs.declared.command.Command.TheVariants as commands
 use Rattle.tsb_command_text.specs.declared.command.Reading.TheVariants.{Bad, Do}
 use Rattle.tsb_log_text.specs.Logs.{log_of, rows_from}
+use Rattle.tsb_log_text.specs.ListText.{lists_line, lists_text}
 use Rattle.tsb_log_text.specs.LogText.{log_text, row_line}
+use Rattle.tsb_log_text.specs.RowLists.{lists_of, row_of_lists}
 use Rattle.tsb_log_text.specs.Rows.{inputs_of, row_of}
 use Rattle.tsb_log_text.specs.declared.log.LogRow.{LogRow}
 use Rattle.tsb_log_text.specs.declared.error.LogError.TheVariants.{Malformed}
@@ -31,7 +33,7 @@ use Rattle.tsb_live_text.specs.saved.Saved.{input_line, saved_text}
 
 -- detector 2 is on
 abbrev on : Row
-on = record { vehicles = set_of_list 2; pedestrians = set_of_list 0; preempts = set_of_list 0 }
+on = record { vehicles = set_of_detectors 2; pedestrians = set_of_list 0; preempts = set_of_list 0 }
 
 abbrev row : ℕ → Row → LogRow
 row tick inputs = record { tick = tick; row = inputs }
@@ -46,11 +48,11 @@ abbrev unended : List LogRow → List ℕ
 unended rs = flat_map row_line rs
 
 is_a_log : log_of (log_text rows) ≡ Ok rows
-unfolding log_text row_line rows_from row_of inputs_of
+unfolding log_text row_line rows_from row_of row_of_lists inputs_of lists_of
 is_a_log = refl
 
 would_be_malformed : log_of (unended rows) ≡ Err (Malformed 1)
-unfolding row_line rows_from row_of inputs_of
+unfolding row_line rows_from row_of row_of_lists inputs_of lists_of
 would_be_malformed = refl
 
 -- ## An object and its index are one word
@@ -88,6 +90,14 @@ kept = with_row 1 on (with_other 0 (Pattern 3) nothing_kept)
 line_of_one : saved_text kept 1 ≡ codes "{\"log\":\"0000001 0100000000000000 00000000 0000\\n\",\"commands\":\"pattern 3\\nstep 1\\n\"}"
 unfolding saved_text print_from escape_byte log_text row_line digits
 line_of_one = refl
+
+-- vehicle detector 17, for which a row in digits has no place
+abbrev beyond : Row
+beyond = record { vehicles = set_of_detectors 65536; pedestrians = set_of_list 0; preempts = set_of_list 0 }
+
+line_of_lists : saved_text (with_row 1 beyond nothing_kept) 1 ≡ codes "{\"log\":\"0000001 V17\\n\",\"commands\":\"step 1\\n\"}"
+unfolding saved_text print_from escape_byte lists_text lists_line digits
+line_of_lists = refl
 
 -- ## Ticks come before the inputs that came first
 

@@ -5,7 +5,7 @@ use Rattle.tsb_log_text.proofs.read.read_rows.Given as goal
 
 abbrev pub invariant-loop-last : goal.invariant-loop-last
 invariant-loop-last l = record {
-  after : IsAfter l.text (lines_of l.rest) l.rows.items l.number l.last;
+  after : IsAfter l.form l.text (lines_of l.rest) l.rows.items l.number l.last;
   count : l.number + length (lines_of l.rest) ≡ suc (length (lines_of l.text));
 }
 

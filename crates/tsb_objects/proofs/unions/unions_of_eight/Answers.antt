@@ -8,7 +8,7 @@ use Rattle.tsb_objects.proofs.UnionLemmas.{names-more, names-before, union-more,
 use Rattle.tsb_objects.proofs.unions.unions_of_eight.Goals as goal
 
 pub loop-place-init : goal.loop-place-init
-loop-place-init c = record {
+loop-place-init g c = record {
   full = refl;
   made = refl;
   told = λ j p below.
@@ -17,7 +17,7 @@ loop-place-init c = record {
 }
 
 pub loop-k-preserved : goal.loop-k-preserved
-loop-k-preserved c =
+loop-k-preserved g c =
     let held = c.loop-k.invariant in
     let d : ℕ = c.loop-place.place in
     let k : ℕ = c.loop-k.k in

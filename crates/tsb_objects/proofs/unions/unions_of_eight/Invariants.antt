@@ -5,7 +5,7 @@ use Rattle.tsb_objects.proofs.unions.unions_of_eight.Given as goal
 
 -- the words of the numbers so far are told
 abbrev pub invariant-loop-place : goal.invariant-loop-place
-invariant-loop-place l = record {
+invariant-loop-place g l = record {
   full : length l.unions ≡ 256;
   made : l.made ≡ 2 ^ l.place;
   told : (j p : ℕ) → j < l.made →
@@ -14,7 +14,7 @@ invariant-loop-place l = record {
 
 -- and as many of those with one number more
 abbrev pub invariant-loop-k : goal.invariant-loop-k
-invariant-loop-k l = record {
+invariant-loop-k g l = record {
   full : length l.unions ≡ 256;
   made : l.made ≡ 2 ^ l.place;
   place : l.place < 8;

@@ -1,4 +1,4 @@
-use Rattle.std.proofs.Common.{◌≡◌, nat_lt, arith}
+use Rattle.std.proofs.Common.{arith}
 use Rattle.std.proofs.lemmas.Bool.Decides.{nat_tests}
 use Rattle.tsb_preempt.proofs.SetLemmas.{followed}
 use Rattle.tsb_preempt.proofs.due.follows.Goals as goal

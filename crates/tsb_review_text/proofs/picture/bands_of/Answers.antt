@@ -1,4 +1,4 @@
-use Rattle.std.proofs.Common.{◌≡◌, ◌++◌, List, [], ap}
+use Rattle.std.proofs.Common.{◌++◌, List, ap}
 use Rattle.tsb_plan.specs.PlanOf.{plan_of}
 use Rattle.tsb_field_diagram.proofs.CountLemmas.{count-more, count-end}
 use Rattle.tsb_field_diagram.specs.declared.week.WeekBand.{WeekBand}

@@ -2,7 +2,7 @@ use Rattle.std.proofs.Common.{◌≡◌, ◌∙◌, ℕ, List, [], ◌∷◌, If
 use Rattle.std.specs.Borrow.{Bor}
 use Rattle.tsb_types.specs.Lists.{run_from}
 use Rattle.tsb_field_diagram.specs.Week.{week_drawing}
-use Rattle.tsb_review_text.specs.WeekPicture.{label_of, title_of}
+use Rattle.tsb_review_text.specs.WeekPicture.{label_of}
 use Rattle.tsb_review_text.proofs.picture.draw_bands.Goals as goal
 
 pub returns : goal.returns

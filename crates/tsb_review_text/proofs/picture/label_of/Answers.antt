@@ -1,5 +1,5 @@
-use Rattle.std.proofs.Common.{◌∙◌, ap, arith}
-use Rattle.tsb_lines.proofs.ShortLemmas.{all-of, said}
+use Rattle.std.proofs.Common.{◌∙◌, ap}
+use Rattle.tsb_lines.proofs.ShortLemmas.{all-of}
 use Rattle.tsb_review_text.specs.Week.{day_text}
 use Rattle.tsb_review_text.proofs.WeekLemmas.{day-fits}
 use Rattle.tsb_review_text.proofs.picture.label_of.Goals as goal

@@ -1,4 +1,4 @@
-use Rattle.std.proofs.Common.{◌∙◌, ap}
+use Rattle.std.proofs.Common.{ap}
 use Rattle.tsb_lines.proofs.ShortLemmas.{all-of, said, then}
 use Rattle.tsb_review_text.specs.Week.{day_text}
 use Rattle.tsb_review_text.proofs.WeekLemmas.{title-fits}

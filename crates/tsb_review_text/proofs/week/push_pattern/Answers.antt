@@ -1,4 +1,4 @@
-use Rattle.std.proofs.Common.{◌≡◌, ◌∙◌, ℕ, ◌==◌, Bool, false, if◌then◌else◌, List, ◌++◌, codes, sym, ap}
+use Rattle.std.proofs.Common.{ℕ, Bool, if◌then◌else◌, ◌++◌, codes, sym, ap}
 use Rattle.std.proofs.lemmas.Bool.{ne_eqb}
 use Rattle.tsb_lines.proofs.ShortLemmas.{said, then}
 use Rattle.tsb_review_text.specs.Week.{number_text}

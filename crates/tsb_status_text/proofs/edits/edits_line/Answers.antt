@@ -1,4 +1,4 @@
-use Rattle.std.proofs.Common.{◌∙◌, ◌++◌, true, List, ℕ, ap, sym}
+use Rattle.std.proofs.Common.{◌∙◌, true, ap, sym}
 use Rattle.tsb_transact.specs.Cells.{desk_in}
 use Rattle.tsb_transact.specs.Layer.{cells_of}
 use Rattle.tsb_lines.specs.ShortLines.{Adds}

@@ -8,6 +8,6 @@ pub returns : goal.returns
 unfolding detectors_text
 returns c =
     at-most (omega arith)
-    (then c.push_set.ensures
-    (then c.push_set-2.ensures
+    (then c.push_detector_set.ensures
+    (then c.push_detector_set-2.ensures
     (part c.push.ensures.line)))

@@ -24,4 +24,4 @@ unfolding plan_of
 returns-clause-reads_back c = λ sound.
     ap reading (returns-clause-line c)
     ∙ c.lines_are_read_back.ensures.reads (plan_of c.args.plan.now)
-    (record { phases = refl; sides = refl; ranged = c.args.plan.now.ranged.each; elsewhere = λ o i hasnt. rw hasnt refl }) sound
+    (record { phases = refl; sides = refl; counts = refl; ranged = c.args.plan.now.ranged.each; elsewhere = λ o i hasnt. rw hasnt refl }) sound

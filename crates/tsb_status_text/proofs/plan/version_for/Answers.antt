@@ -4,10 +4,10 @@ use Rattle.tsb_plan.specs.Objects.{objects}
 use Rattle.tsb_status_text.specs.PlanLine.{version_for}
 use Rattle.tsb_status_text.proofs.plan.version_for.Goals as goal
 
-pub returns-then-are_told : goal.returns-then-are_told
+pub returns-then-all_fit_version_2 : goal.returns-then-all_fit_version_2
 unfolding version_for objects
-returns-then-are_told c = ap (λ (b : Bool). if b then Two else Three) (sym c.if-are_told.true ∙ c.are_told.ensures)
+returns-then-all_fit_version_2 c = ap (λ (b : Bool). if b then Two else Three) (sym c.if-all_fit_version_2.true ∙ c.all_fit_version_2.ensures)
 
-pub returns-else-are_told : goal.returns-else-are_told
+pub returns-else-all_fit_version_2 : goal.returns-else-all_fit_version_2
 unfolding version_for objects
-returns-else-are_told c = ap (λ (b : Bool). if b then Two else Three) (sym c.if-are_told.false ∙ c.are_told.ensures)
+returns-else-all_fit_version_2 c = ap (λ (b : Bool). if b then Two else Three) (sym c.if-all_fit_version_2.false ∙ c.all_fit_version_2.ensures)

@@ -28,13 +28,13 @@ returns-in_err-stop-clause-done g c given log is s next = let p = err_from_is_er
 pub returns-in_err-say_answer-clause-done : goal.returns-in_err-say_answer-clause-done
 returns-in_err-say_answer-clause-done g c given log is s next = let p = err_from_is_err_and c.from_residual-in_err-say_answer.result c.from_residual-in_err-say_answer.ensures.1 in
     rw p.1 (ask-cut-line given log is c.args.command c.answer-answer.result c.answer-answer.new.self c.args.course.now.mode c.args.echo.now c.answer-answer.ensures.mode (sym c.in-None.is ∙ c.refusal_in.ensures)
-    (c.answer-answer.ensures.right given log is s next) (c.answer-answer.ensures.next given log is s) c.follow.new.course c.in_ok-stop.stop c.bench.result.now c.bench.ensures _ _ _ _ _ _ _ _ c.in_ok-say_before.ensures.said
+    (c.answer-answer.ensures.right given log is s next) (c.answer-answer.ensures.next given log is s) c.follow.new.course c.in_ok-stop.stop _ _ _ _ _ _ _ _ c.in_ok-say_before.ensures.said
     (c.in_ok-stop.ensures.done given log _ (c.answer-answer.ensures.right given log is s next).stands) p.0 c.in_err-say_answer.ensures.said)
 
 pub returns-clause-done : goal.returns-clause-done
 returns-clause-done g c given log is s next =
     ask-so given log is c.args.command c.answer-answer.result c.answer-answer.new.self c.args.course.now.mode c.args.echo.now c.answer-answer.ensures.mode (sym c.in-None.is ∙ c.refusal_in.ensures)
-    (c.answer-answer.ensures.right given log is s next) (c.answer-answer.ensures.next given log is s) c.follow.new.course c.in_ok-stop.stop c.bench.result.now c.bench.ensures _ _ _ _ _ _ _ _ c.in_ok-say_before.ensures.said
+    (c.answer-answer.ensures.right given log is s next) (c.answer-answer.ensures.next given log is s) c.follow.new.course c.in_ok-stop.stop _ _ _ _ _ _ _ _ c.in_ok-say_before.ensures.said
     (c.in_ok-stop.ensures.done given log _ (c.answer-answer.ensures.right given log is s next).stands) c.say_if_refused.result _ _ c.in_ok-say_answer.ensures.said c.say_if_refused.ensures.told c.say_if_refused.ensures.said
 
 pub returns-clause-wanting : goal.returns-clause-wanting

@@ -1,6 +1,6 @@
 use Rattle.std.proofs.Common.{◌≡◌, ◌+◌, ◌-◌, ◌∙◌, Err, Ok, ap, arith, inl, inr, refl}
 use Rattle.std.proofs.lemmas.Result.{err_from_is_err_and}
-use Rattle.tsb_text.specs.Obeyed.{OnCourse, besides_of, tells_in}
+use Rattle.tsb_text.specs.Obeyed.{besides_of, tells_in}
 use Rattle.tsb_objects.specs.tsb_types.declared.refusal.Refusal.TheVariants.{Memory}
 use Rattle.tsb_text.proofs.CourseLemmas.{no-refusal, told-memory}
 use Rattle.tsb_text.proofs.AnswerLemmas.{steps-end, steps-fault, steps-more, steps-over, steps-start, steps-stop, wants-pattern}

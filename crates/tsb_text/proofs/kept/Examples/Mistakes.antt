@@ -1,7 +1,7 @@
 -- Mistakes that the laws refuse, and what is kept of worked inputs, computed.
 use Rattle.std.proofs.Common.{◌≡◌, ℕ, [], ◌∷◌, ◌++◌, Some, refl}
 use Rattle.std.proofs.lemmas.Bool.{true≢false}
-use Rattle.tsb_types.specs.Sets.{all_off, set_of_list}
+use Rattle.tsb_types.specs.Sets.{all_off, set_of_detectors, set_of_list}
 use Rattle.tsb_types.specs.declared.row.Row.{Row}
 use Rattle.tsb_log_text.specs.declared.log.LogRow.{LogRow}
 use Rattle.tsb_log_text.specs.Logs.{row_at}
@@ -14,7 +14,7 @@ use Rattle.tsb_text.specs.kept.Laws.{Differ, given_again}
 
 -- detector 2 is on
 abbrev on : Row
-on = record { vehicles = set_of_list 2; pedestrians = set_of_list 0; preempts = set_of_list 0 }
+on = record { vehicles = set_of_detectors 2; pedestrians = set_of_list 0; preempts = set_of_list 0 }
 
 abbrev row : ℕ → Row → LogRow
 row tick inputs = record { tick = tick; row = inputs }

@@ -172,9 +172,9 @@ would_leave_out given bad tick told h = let none : (stopped_by 1 bad).stop ≡ N
 
 -- a line that sets a clock, and no other, where no schedule acts
 clock_first : (plan : Plan) (log : List LogRow) (m : ℕ) (clock : List ℕ) → reading clock ≡ Do (Clock m)
-    → Come Stop (record { plan = plan; log = log; acts = false }) (left (inputs.Clock m ∷ [])) 1 [] (clock ∷ []) []
+    → Come Stop (record { plan = plan; log = log; acts = false; is_wide = false }) (left (inputs.Clock m ∷ [])) 1 [] (clock ∷ []) []
 clock_first plan log m clock sets =
-    clocks_are_first_lines Stop (record { plan = plan; log = log; acts = false }) m (inputs.Clock m ∷ []) (left (inputs.Clock m ∷ [])) 1 clock [] [] sets (refl, refl) (refl, refl)
+    clocks_are_first_lines Stop (record { plan = plan; log = log; acts = false; is_wide = false }) m (inputs.Clock m ∷ []) (left (inputs.Clock m ∷ [])) 1 clock [] [] sets (refl, refl) (refl, refl)
 
 -- where one does, the pattern is left that follows it
 pattern_next : (given : Setup) (m n : ℕ) (clock : List ℕ) → reading clock ≡ Do (Clock m) → follower given [] (inputs.Clock m) ≡ Some (inputs.Pattern n)

@@ -1,4 +1,4 @@
-use Rattle.std.proofs.Common.{◌∙◌, List, [], inl, inr, refl, subst, sym}
+use Rattle.std.proofs.Common.{◌∙◌, List, [], false, inl, inr, refl, subst, sym}
 use Rattle.tsb_bench.proofs.tsb_machine.PlayLemmas.{follows-start}
 use Rattle.tsb_bench.specs.Held.{Held, whole}
 use Rattle.tsb_bench.specs.tsb_step.Past.{controller}
@@ -17,10 +17,10 @@ returns-in_default-clause-ended g c = inr (refl, refl)
 
 pub returns-in-Ok-set_clock-clause-ended : goal.returns-in-Ok-set_clock-clause-ended
 returns-in-Ok-set_clock-clause-ended g c =
-    let given : Setup = record { plan = checked_plan c.args.plan; log = c.args.log.now; acts = c.args.options.acts } in
+    let given : Setup = record { plan = checked_plan c.args.plan; log = c.args.log.now; acts = c.args.options.acts; is_wide = false } in
     let begins : Stands given given.log c.new-begun.result [] =
     record-begins given given.log c.new-begun.result c.args.options.form c.new-begun.ensures.mode refl c.new-begun.ensures.rows
-    (subst (λ (b : Held). Follows given.plan (whole b) []) (sym c.new-begun.ensures.bench) (follows-start controller (start given.plan) (whole c.in-Ok.bench) c.in-Ok.ensures)) c.new-begun.ensures.told c.new-begun.ensures.acts in
+    (subst (λ (b : Held). Follows given.plan (whole b) []) (sym c.new-begun.ensures.bench) (follows-start controller (start given.plan) (whole c.in-Ok.bench) c.in-Ok.ensures)) c.new-begun.ensures.told c.new-begun.ensures.acts c.new-begun.ensures.wide in
     let set : (first : List Input) × BeginsWith given c.args.options.clock first × Stands given given.log c.set_clock.new.course first = c.in-Ok-set_clock.ensures.set given given.log begins in
     inl (set.0, set.1, c.carried_out.ensures.ended given c.args.options.form set.0 set.2 (c.set_clock.ensures.mode ∙ c.new-begun.ensures.mode))
 

@@ -1,10 +1,10 @@
-use Rattle.std.proofs.Common.{◌≡◌, ℕ, ◌+◌, ◌≤◌, true, if◌then◌else◌, slice_index, count_by, refl, sym, ◌∙◌, ap, inl, inr, subst}
+use Rattle.std.proofs.Common.{◌≡◌, ℕ, ◌+◌, ◌≤◌, true, if◌then◌else◌, slice_index, count_by, refl, sym, ◌∙◌, ap, arith, inl, inr, subst}
 use Rattle.std.proofs.lemmas.Bool.Decides.{eqb_tells}
 use Rattle.tsb_objects.specs.Checked.{checked_plan}
 use Rattle.tsb_objects.specs.tsb_types.Sets.{has, has_detector}
 use Rattle.tsb_calls.specs.Memories.{calls, vehicle_detectors}
 use Rattle.tsb_calls.specs.Layer.{cells_of, counted_to}
-use Rattle.tsb_calls.proofs.CountLemmas.{taken, count-taken, count-all, count-begun, counted-twice, counted-none, counted-small}
+use Rattle.tsb_calls.proofs.CountLemmas.{all-detectors, taken, count-taken, count-all, count-begun, counted-twice, counted-none, counted-small}
 use Rattle.tsb_calls.proofs.calls.Calls.count_actuations.Goals as goal
 
 pub loop-d-preserved : goal.loop-d-preserved
@@ -28,7 +28,7 @@ loop-d-preserved c =
           ∙ counted-twice (has c.args.green p) was far one
           ∙ ap (λ (n : ℕ). counted_to (has c.args.green p) was n)
           (count-taken (checked_plan c.args.plan.now).counts.vehicle_detectors (λ e. calls (checked_plan c.args.plan.now) e p) (has_detector c.args.actuated) (has_detector c.loop-d.rest) (has_detector c.pop_detector.new.self) d
-          c.in-Some.ensures.from c.in-Some.ensures.within had c.in-Some.ensures.had c.in-Some.ensures.taken c.in-Some.ensures.others);
+          c.in-Some.ensures.from (omega (arith, c.in-Some.ensures.within, all-detectors c.args.plan.now)) had c.in-Some.ensures.had c.in-Some.ensures.taken c.in-Some.ensures.others);
       small = λ p from within.
           let one : ℕ = if calls (checked_plan c.args.plan.now) d p then 1 else 0 in
           subst (λ (n : ℕ). n ≤ 255) (sym (made.counts p from within)) (counted-small (has c.args.green p) _ one (held.small p from within));

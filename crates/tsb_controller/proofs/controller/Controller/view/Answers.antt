@@ -32,6 +32,7 @@ returns c b same trips clock =
     let rows = rows_of c.args.self.now in
     let plan = checked_plan c.args.plan.now in
     let few = (placed c.args.plan.now).count in
+    let detectors = (placed c.args.plan.now).detectors in
     let s : State = state_of now b rows in
     let i = c.shown_intervals-shown.result in
     let w = c.shown_pedestrians-walking.result in
@@ -54,9 +55,9 @@ returns c b same trips clock =
       walks = λ p from to. c.numbers-6.ensures p ∙ walk-set w p ∙ ap is_walk (parts p from to);
       clearances = λ p from to. c.numbers-7.ensures p ∙ c.difference-4.ensures p ∙ clearance-set w p ∙ ap is_clearance (parts p from to);
       vehicle_calls = λ p from to. c.numbers-8.ensures p
-          ∙ vehicle-calls plan few rows c.intervals-intervals.result c.pedestrians-pedestrians.result c.standing-standing.result c.intervals-intervals.ensures c.pedestrians-pedestrians.ensures c.standing-standing.ensures now b same p from to;
+          ∙ vehicle-calls plan few detectors rows c.intervals-intervals.result c.pedestrians-pedestrians.result c.standing-standing.result c.intervals-intervals.ensures c.pedestrians-pedestrians.ensures c.standing-standing.ensures now b same p from to;
       pedestrian_calls = λ p from to. c.numbers-9.ensures p
-          ∙ pedestrian-calls plan few rows c.intervals-intervals.result c.pedestrians-pedestrians.result c.standing-standing.result c.intervals-intervals.ensures c.pedestrians-pedestrians.ensures c.standing-standing.ensures now b same p from to;
+          ∙ pedestrian-calls plan few detectors rows c.intervals-intervals.result c.pedestrians-pedestrians.result c.standing-standing.result c.intervals-intervals.ensures c.pedestrians-pedestrians.ensures c.standing-standing.ensures now b same p from to;
       recalls = λ p from to. c.numbers-10.ensures p ∙ c.recalls.ensures p from to
           ∙ ap (λ (x : Plan). is_on_minimum_recall x (running x s.pattern) p || is_on_maximum_recall x (running x s.pattern) p) (sym same);
       pedestrian_recalls = λ p from to. c.numbers-11.ensures p ∙ c.on_pedestrian_recall.ensures p from to

@@ -1,6 +1,7 @@
 use Rattle.std.proofs.Common.{◌∷◌, ◌++◌, ◌∙◌, ◌<◌, [], List, ℕ, ap, length, refl, rules, sym, subst}
 use Rattle.tsb_lines.specs.Lines.{kept}
 use Rattle.tsb_lines.proofs.LineLemmas.{line-behind}
+use Rattle.tsb_field_display.specs.declared.stream.TheConstants.{KEPT}
 use Rattle.tsb_field_display.specs.Stream.{Stand, StandsAt, with_bytes}
 use Rattle.tsb_field_display.proofs.StreamLemmas.{bytes-behind, piece-held}
 use Rattle.tsb_field_display.proofs.stream.DisplayStream.feed_all.Goals as goal
@@ -24,4 +25,4 @@ returns-then-not-is_empty c s stands =
     let some : 0 < length left = search rules in
     let before = was.2 s stands in
     subst (λ (t : Stand). StandsAt t (record c.loop-rest.self { line = c.extend.new.self })) (sym (ap (with_bytes s) was.1 ∙ bytes-behind s was.0 left ∙ piece-held (with_bytes s was.0) left some c.in_default.ensures))
-    (record { shown = before.shown; held = c.extend.ensures.kept ∙ ap (λ held. kept 55 (held ++ left)) before.held })
+    (record { shown = before.shown; held = c.extend.ensures.kept ∙ ap (λ held. kept KEPT (held ++ left)) before.held; wide = before.wide })

@@ -11,7 +11,7 @@ returns-in-Err-clause-went g c =
 pub returns-clause-went : goal.returns-clause-went
 returns-clause-went g c =
     λ given bytes begun f.
-    line-went c.write_rows.result given bytes c.ended.result.now c.args.self.now _ c.in-Ok.rows _ _ _ f
+    line-went c.write_rows.result given bytes c.ended.result.now c.args.self.now _ c.form.result c.in-Ok.rows _ _ _ f c.form.ensures
     c.ended.ensures.line (c.in-Ok.ensures.takes given f.stand f.stands)
     (search rules) (search rules) c.write_rows.ensures.whole c.write_rows.ensures.front c.write_rows.ensures.fault
 

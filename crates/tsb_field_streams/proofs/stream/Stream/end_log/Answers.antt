@@ -15,14 +15,14 @@ pub returns-in-Ok-write_last_rows-clause-finished : goal.returns-in-Ok-write_las
 returns-in-Ok-write_last_rows-clause-finished g c =
     λ given bytes begun before k.
     let known = all-known given bytes before c.args.self.now.filter _ _ k in
-    end-whole given bytes c.args.self.now.filter c.in-Ok.rest c.summary-summary.result _ _ _ known (c.in-Ok.ensures.fits given known.stand known.stands) (c.in-Ok.ensures.whole given known.stand known.stands)
+    end-whole given bytes c.args.self.now.filter c.form-form.result c.in-Ok.rest c.summary-summary.result _ _ _ known c.form-form.ensures (c.in-Ok.ensures.fits given known.stand known.stands) (c.in-Ok.ensures.whole given known.stand known.stands)
     c.in-Ok-write_last_rows.ensures.whole (c.summary-summary.ensures.stands given known.stand known.stands)
 
 pub returns-in-Err-write_last_rows-clause-finished : goal.returns-in-Err-write_last_rows-clause-finished
 returns-in-Err-write_last_rows-clause-finished g c =
     λ given bytes begun before k.
     let known = all-known given bytes before c.args.self.now.filter _ _ k in
-    end-unwritten given bytes c.args.self.now.filter c.in-Ok.rest c.in-Err-write_last_rows.fault _ _ _ known (c.in-Ok.ensures.whole given known.stand known.stands) c.write_last_rows.ensures.front
+    end-unwritten given bytes c.args.self.now.filter c.form-form.result c.in-Ok.rest c.in-Err-write_last_rows.fault _ _ _ known c.form-form.ensures (c.in-Ok.ensures.whole given known.stand known.stands) c.write_last_rows.ensures.front
     (write-fault (Err c.in-Err-write_last_rows.fault) c.in-Err-write_last_rows.fault refl c.in-Err-write_last_rows.ensures.fault)
 
 pub returns-in-Err-clause-blame : goal.returns-in-Err-clause-blame

@@ -22,7 +22,7 @@ pub returns-in-Err-write_rows-clause-gave : goal.returns-in-Err-write_rows-claus
 returns-in-Err-write_rows-clause-gave g c =
     λ given bytes begun before k.
     let here = c.loop.invariant.known given bytes begun before k in
-    next-unwritten given bytes before c.loop.counter c.loop.self.filter c.take_next.new.self c.in-Ok.rows c.in-Err-write_rows.fault _ _ _ here.0
+    next-unwritten given bytes before c.loop.counter c.loop.self.filter c.take_next.new.self c.form.result c.in-Ok.rows c.in-Err-write_rows.fault _ _ _ here.0 c.form.ensures
     (c.in-Ok.ensures.takes given here.0.stand here.0.stands) c.write_rows.ensures.front
     (write-fault (Err c.in-Err-write_rows.fault) c.in-Err-write_rows.fault refl c.in-Err-write_rows.ensures.fault)
 
@@ -31,7 +31,7 @@ loop-preserved g c = record {
   well = λ w. (c.in-Ok-write_rows.ensures.blame (c.loop.invariant.well w)).1;
   known = λ given bytes begun before k.
       let here = c.loop.invariant.known given bytes begun before k in (
-        next-taken given bytes before c.loop.counter c.loop.self.filter c.take_next.new.self c.in-Ok.rows _ _ _ here.0 (c.in-Ok.ensures.takes given here.0.stand here.0.stands) c.in-Ok-write_rows.ensures.whole,
+        next-taken given bytes before c.loop.counter c.loop.self.filter c.take_next.new.self c.form.result c.in-Ok.rows _ _ _ here.0 c.form.ensures (c.in-Ok.ensures.takes given here.0.stand here.0.stands) c.in-Ok-write_rows.ensures.whole,
         here.1,
       );
 }

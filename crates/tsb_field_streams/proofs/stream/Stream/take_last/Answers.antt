@@ -5,9 +5,9 @@ use Rattle.tsb_field_streams.proofs.stream.Stream.take_last.Goals as goal
 pub returns-in-Ok-clause-took : goal.returns-in-Ok-clause-took
 returns-in-Ok-clause-took g c =
     λ given bytes begun f.
-    last-took c.write_rows.result given bytes c.args.self.now c.in-Ok.rows c.take_line.new.self _ _ _
+    last-took c.write_rows.result given bytes c.args.self.now c.form.result c.in-Ok.rows c.take_line.new.self _ _ _
     (last-taken given bytes c.last.result.now c.args.self.now c.in-Ok.rows c.take_line.new.self _ _ f c.last.ensures.line (c.in-Ok.ensures.takes given f.stand f.stands))
-    c.write_rows.ensures.whole c.write_rows.ensures.front c.write_rows.ensures.fault
+    c.form.ensures c.write_rows.ensures.whole c.write_rows.ensures.front c.write_rows.ensures.fault
 
 pub returns-in-Err-clause-took : goal.returns-in-Err-clause-took
 returns-in-Err-clause-took g c =

@@ -1,4 +1,5 @@
-use Rattle.std.proofs.Common.{◌∙◌, rules}
+use Rattle.std.proofs.Common.{◌∙◌, rules, arith}
+use Rattle.std.proofs.lemmas.Grind.{common_steps}
 use Rattle.tsb_lines.proofs.StreamLemmas.{gone-more}
 use Rattle.tsb_lines.proofs.watched.Watched.write_text.Goals as goal
 
@@ -9,3 +10,6 @@ loop-gone-preserved g c = record {
   within = search rules;
   well = c.in-Ok.ensures.well ∙ c.loop-gone.invariant.well;
 }
+
+pub returns-clause-whole : goal.returns-clause-whole
+returns-clause-whole g c = grind (arith, common_steps)

@@ -16,9 +16,9 @@ use Rattle.tsb_status_text.specs.StatusText.{status_text}
 use Rattle.tsb_text.specs.Answers.{when_line}
 use Rattle.tsb_command_text.specs.declared.live_command.LiveCommand.TheVariants as asks
 use Rattle.tsb_live_text.specs.GoTo.{tick_of}
-use Rattle.tsb_live_text.specs.Live.{present, with_echo, with_events}
+use Rattle.tsb_live_text.specs.Live.{present, with_echo, with_events, with_lines}
 use Rattle.tsb_live_text.specs.declared.help.TheConstants.{HELP}
-use Rattle.tsb_live_text.proofs.LiveLemmas.{does-as, does-plan, does-tell, does-tick-at, echo-stands, events-stands, made-plan, present-kept, present-state, present-tick, same-echo}
+use Rattle.tsb_live_text.proofs.LiveLemmas.{does-as, does-plan, does-tell, does-tick-at, echo-stands, events-stands, lines-stands, made-plan, present-kept, present-state, present-tick, same-echo}
 use Rattle.tsb_live_text.proofs.run.LiveRun.ask.Goals as goal
 
 pub returns-in-Session-clause-done : goal.returns-in-Session-clause-done
@@ -66,7 +66,7 @@ returns-in-TickAt-clause-done g c s stands =
 pub returns-in-Events-clause-done : goal.returns-in-Events-clause-done
 returns-in-Events-clause-done g c s stands =
     does-as c.tell-in-Events-2.result s _ c.args.line.now c.args.command (asks.Events c.in-Events.on) _ _ _ _ c.in-Events.is
-    (does-tell c.tell-in-Events-2.result None _ s (with_events c.in-Events.on s) c.args.line.now c.deref-in-Events.result.now (codes "ok") (codes "ok") _ _ _ _ (events-stands c.args.self.now _ s c.in-Events.on stands c.tell-in-Events.ensures.mode c.tell-in-Events.ensures.bench c.tell-in-Events.ensures.rows c.tell-in-Events.ensures.kept c.tell-in-Events.ensures.acts refl refl refl)
+    (does-tell c.tell-in-Events-2.result None _ s (with_events c.in-Events.on s) c.args.line.now c.deref-in-Events.result.now (codes "ok") (codes "ok") _ _ _ _ (events-stands c.args.self.now _ s c.in-Events.on stands c.tell-in-Events.ensures.mode c.tell-in-Events.ensures.bench c.tell-in-Events.ensures.rows c.tell-in-Events.ensures.kept c.tell-in-Events.ensures.acts c.tell-in-Events.ensures.wide refl refl refl)
     (same-echo c.args.self.now s c.args.line.now c.deref-in-Events.result.now stands (c.deref-in-Events.ensures.0 ∙ c.echo-echo.ensures)) (refl) c.tell-in-Events-2.ensures.told)
 
 pub returns-in-Echo-clause-done : goal.returns-in-Echo-clause-done
@@ -74,6 +74,12 @@ returns-in-Echo-clause-done g c s stands =
     does-as c.tell-in-Echo.result s _ c.args.line.now c.args.command (asks.Echo c.in-Echo.on) _ _ _ _ c.in-Echo.is
     (does-tell c.tell-in-Echo.result None _ s (with_echo c.in-Echo.on s) c.args.line.now c.deref-in-Echo.result.now (codes "ok") (codes "ok") _ _ _ _ (echo-stands c.args.self.now _ s c.in-Echo.on stands refl refl refl refl)
     (same-echo c.args.self.now s c.args.line.now c.deref-in-Echo.result.now stands (c.deref-in-Echo.ensures.0 ∙ c.echo-echo.ensures)) (refl) c.tell-in-Echo.ensures.told)
+
+pub returns-in-Lines-clause-done : goal.returns-in-Lines-clause-done
+returns-in-Lines-clause-done g c s stands =
+    does-as c.tell-in-Lines.result s _ c.args.line.now c.args.command (asks.Lines c.in-Lines.is_wide) _ _ _ _ c.in-Lines.is
+    (does-tell c.tell-in-Lines.result None _ s (with_lines c.in-Lines.is_wide s) c.args.line.now c.deref-in-Lines.result.now (codes "ok") (codes "ok") _ _ _ _ (lines-stands c.args.self.now _ s c.in-Lines.is_wide stands c.lay_lines.ensures refl refl refl)
+    (same-echo c.args.self.now s c.args.line.now c.deref-in-Lines.result.now stands (c.deref-in-Lines.ensures.0 ∙ c.echo-echo.ensures)) (refl) c.tell-in-Lines.ensures.told)
 
 pub returns-in-Save-clause-done : goal.returns-in-Save-clause-done
 returns-in-Save-clause-done g c s stands =

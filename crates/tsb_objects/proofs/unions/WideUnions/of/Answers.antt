@@ -1,7 +1,7 @@
 use Rattle.std.proofs.Common.{◌≡◌, ℕ, ◌+◌, ◌-◌, ◌*◌, ◌%◌, ◌<◌, ◌≤◌, ◌&&◌, ◌||◌, Bool, false, [], get_or, arith, sym, ◌∙◌, ap}
 use Rattle.tsb_types.specs.declared.limits.TheConstants.{VEHICLE_DETECTORS}
 use Rattle.tsb_types.specs.Lists.{some_passes, run_from}
-use Rattle.tsb_types.specs.Sets.{names, has_detector}
+use Rattle.tsb_types.specs.Sets.{names, has, has_detector}
 use Rattle.tsb_types.proofs.SetLemmas.{names-zero}
 use Rattle.tsb_objects.specs.Unions.{AreWideUnions}
 use Rattle.tsb_objects.proofs.UnionLemmas.{names-high, wide-more, wide-end}
@@ -12,7 +12,7 @@ unfolding run_from
 loop-k-init c = record {
   within = omega arith;
   rest = λ n from. c.list-rest.ensures n ∙ ap (has_detector c.args.detectors) (let e : n ≡ 8 * 0 + n = omega arith in e);
-  told = λ test are p from within. c.empty-phases.ensures.none p;
+  told = λ test are p from within. c.empty-phases.ensures p;
 }
 
 pub loop-k-preserved : goal.loop-k-preserved
@@ -28,7 +28,12 @@ loop-k-preserved c =
           ∙ ap on (let e : 8 * k + (8 + n) ≡ 8 * (k + 1) + n = omega arith in e);
       told = λ test are p from within.
           c.union-phases.ensures p
-          ∙ ap (λ (b : Bool). b || names (get_or (get_or c.args.self.now.eights k []) (rest % 256) 0) p) ? ∙ ?;
+          ∙ ap (λ (b : Bool). has c.loop-k.phases p || b) (c.from_list.ensures p)
+          ∙ wide-more (λ d. on d && test d p) (λ n. test (8 * k + n) p) rest k (has c.loop-k.phases p)
+          (names (get_or (get_or c.args.self.now.eights k []) (rest % 256) 0) p)
+          (held.told test are p from within)
+          (are.each k (omega arith) (rest % 256) p (omega arith) from within)
+          (λ n first below. ap (λ (b : Bool). b && test (8 * k + n) p) (held.rest n first));
     }
 
 pub returns-then-rest-eq0 : goal.returns-then-rest-eq0

@@ -1,8 +1,9 @@
-use Rattle.std.proofs.Common.{ℕ, Bool, ◌&&◌, sym, ◌∙◌, ap}
+use Rattle.std.proofs.Common.{ℕ, ◌+◌, Bool, ◌&&◌, slice_index, sym, ◌∙◌, ap}
 use Rattle.tsb_types.specs.Lists.{first, run_from}
 use Rattle.tsb_types.specs.Sets.{has_number}
 use Rattle.tsb_objects.specs.tsb_plan.PlanOf.{plan_of}
 use Rattle.tsb_preempt.specs.Layer.{cells_of}
+use Rattle.tsb_preempt.specs.Rows.{requests_by}
 use Rattle.tsb_preempt.proofs.ServiceLemmas.{service-stored, all-preempts, few-preempts}
 use Rattle.tsb_preempt.proofs.DoneLemmas.{done}
 use Rattle.tsb_preempt.proofs.preempts.Preempts.change.Goals as goal
@@ -20,7 +21,8 @@ returns-clause-done c =
       was_is = c.load-was.ensures.state c.args.now;
       delays = c.put_delays.ensures.delays;
       few = few-preempts c.args.plan.now;
-      asks_is = c.requesting-asks.ensures ∙ ap (λ (count : ℕ). first _ (run_from 1 count)) (sym (all-preempts c.args.plan.now));
+      asks_is = c.requesting-asks.ensures ∙ ap (λ (count : ℕ). first (λ (n : ℕ). requests_by c.args.now (plan_of c.args.plan.now) n (has_number c.inputs-inputs.result n)
+          (has_number c.intersection-still.result n) (slice_index (cells_of c.put_delays.new.self) (1 + n))) (run_from 1 count)) (sym (all-preempts c.args.plan.now));
       begins_is = c.beginning-begins.ensures c.args.now;
       serving_is = c.served-serving.ensures.state;
       spender_is = c.spends-spender.ensures;

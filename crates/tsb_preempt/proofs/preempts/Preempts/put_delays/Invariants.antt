@@ -1,5 +1,4 @@
 use Rattle.std.proofs.Common.{◌≡◌, ℕ, ◌+◌, ◌<◌, ◌≤◌, true, slice_index}
-use Rattle.tsb_types.specs.declared.limits.TheConstants.{PREEMPTS}
 use Rattle.tsb_types.specs.Sets.{has_number}
 use Rattle.tsb_preempt.specs.Rows.{delay_cell}
 use Rattle.tsb_preempt.specs.Layer.{cells_of, kept_of, is_open}

@@ -33,13 +33,14 @@ returns-in_default c = record {
   mode = c.forget.ensures.mode ∙ ap (λ (v : OnCourse). v.mode) c.self.view_is;
   rows = c.forget.ensures.rows ∙ ap (λ (v : OnCourse). v.rows) c.self.view_is;
   acts = c.forget.ensures.acts ∙ ap (λ (v : OnCourse). v.acts) c.self.view_is;
+  wide = c.forget.ensures.wide ∙ ap (λ (v : OnCourse). v.is_wide) c.self.view_is;
   next = λ given log is s. c.forget.ensures.next ∙ sym (none-after-command given is c.args.command c.answer-given.result c.in_default.not-Apply);
 }
   where
-    right : (given : Setup) (log : List LogRow) (is : List Input) → Stands given log (record { bench = c.self.inside.bench; rows = rows_in c.self.inside.rows; kept = c.self.inside.kept; told = c.self.inside.told; mode = c.self.inside.mode; news = c.self.inside.news.items; acts = c.self.inside.acts; next = option_map Pattern c.self.inside.next }) is
+    right : (given : Setup) (log : List LogRow) (is : List Input) → Stands given log (record { bench = c.self.inside.bench; rows = rows_in c.self.inside.rows; kept = c.self.inside.kept; told = c.self.inside.told; mode = c.self.inside.mode; news = c.self.inside.news.items; acts = c.self.inside.acts; is_wide = c.self.inside.is_wide; next = option_map Pattern c.self.inside.next }) is
         → Answered given log c.forget.new.self is c.args.command c.answer-given.result
-    right given log is s = answered-there given log is (record { bench = c.self.inside.bench; rows = rows_in c.self.inside.rows; kept = c.self.inside.kept; told = c.self.inside.told; mode = c.self.inside.mode; news = c.self.inside.news.items; acts = c.self.inside.acts; next = option_map Pattern c.self.inside.next }) c.forget.new.self c.answer-given.new.bench c.args.command c.answer-given.result s
-        c.in_default.not-Apply c.forget.ensures.mode c.forget.ensures.rows c.forget.ensures.acts c.forget.ensures.bench c.answer-given.ensures.right c.forget.ensures.kept c.forget.ensures.told
+    right given log is s = answered-there given log is (record { bench = c.self.inside.bench; rows = rows_in c.self.inside.rows; kept = c.self.inside.kept; told = c.self.inside.told; mode = c.self.inside.mode; news = c.self.inside.news.items; acts = c.self.inside.acts; is_wide = c.self.inside.is_wide; next = option_map Pattern c.self.inside.next }) c.forget.new.self c.answer-given.new.bench c.args.command c.answer-given.result s
+        c.in_default.not-Apply c.forget.ensures.mode c.forget.ensures.rows c.forget.ensures.acts c.forget.ensures.wide c.forget.ensures.bench c.answer-given.ensures.right c.forget.ensures.kept c.forget.ensures.told
 
 pub returns-in-Ok-clause-next : goal.returns-in-Ok-clause-next
 returns-in-Ok-clause-next c given log is s = rw c.in-Apply.is (c.in-Ok.ensures.next given log is s)

@@ -10,7 +10,7 @@ use Rattle.tsb_text.proofs.course.Course.take.Goals as goal
 
 pub returns-clause-took : goal.returns-clause-took
 returns-clause-took c given log is s next =
-    let old : OnCourse = record { bench = c.self.inside.bench; rows = rows_in c.self.inside.rows; kept = c.self.inside.kept; told = c.self.inside.told; mode = c.self.inside.mode; news = c.self.inside.news.items; acts = c.self.inside.acts; next = option_map Pattern c.self.inside.next } in
+    let old : OnCourse = record { bench = c.self.inside.bench; rows = rows_in c.self.inside.rows; kept = c.self.inside.kept; told = c.self.inside.told; mode = c.self.inside.mode; news = c.self.inside.news.items; acts = c.self.inside.acts; is_wide = c.self.inside.is_wide; next = option_map Pattern c.self.inside.next } in
     let here : Stands given log old is = subst (λ (v : OnCourse). Stands given log v is) (sym c.self.view_is) s in
     let there : IsNext old.mode given is c.args.input = subst (λ (v : OnCourse). IsNext v.mode given is c.args.input) (sym c.self.view_is) next in
     c.take_alone.ensures.took given log is (stands-before given log old None is here) there

@@ -12,9 +12,9 @@ use Rattle.tsb_text.proofs.course.Course.take_keeping.Goals as goal
 
 pub returns-in-Err-clause-took : goal.returns-in-Err-clause-took
 returns-in-Err-clause-took c given log is s next =
-    let old : OnCourse = record { bench = c.self.inside.bench; rows = rows_in c.self.inside.rows; kept = c.self.inside.kept; told = c.self.inside.told; mode = c.self.inside.mode; news = c.self.inside.news.items; acts = c.self.inside.acts; next = option_map Pattern c.self.inside.next } in
+    let old : OnCourse = record { bench = c.self.inside.bench; rows = rows_in c.self.inside.rows; kept = c.self.inside.kept; told = c.self.inside.told; mode = c.self.inside.mode; news = c.self.inside.news.items; acts = c.self.inside.acts; is_wide = c.self.inside.is_wide; next = option_map Pattern c.self.inside.next } in
     let here : Stands given log old is = subst (λ (v : OnCourse). Stands given log v is) (sym c.self.view_is) s in
-    kept-refused c.in-Err.refusal given log is old _ c.args.input here refl refl refl refl refl
+    kept-refused c.in-Err.refusal given log is old _ c.args.input here refl refl refl refl refl refl
     (bench-took (Err c.in-Err.refusal) given.plan is c.self.inside.bench c.apply.new.self c.args.input here.follows tt tt tt tt c.in-Err.ensures.refused c.in-Err.ensures.err)
 
 pub returns-in-Err-clause-wanting : goal.returns-in-Err-clause-wanting
@@ -25,9 +25,9 @@ returns-in-Err-clause-still c = subst (λ (v : OnCourse). whole c.apply.new.self
 
 pub returns-in-Ok-clause-took : goal.returns-in-Ok-clause-took
 returns-in-Ok-clause-took c given log is s next =
-    let old : OnCourse = record { bench = c.self.inside.bench; rows = rows_in c.self.inside.rows; kept = c.self.inside.kept; told = c.self.inside.told; mode = c.self.inside.mode; news = c.self.inside.news.items; acts = c.self.inside.acts; next = option_map Pattern c.self.inside.next } in
+    let old : OnCourse = record { bench = c.self.inside.bench; rows = rows_in c.self.inside.rows; kept = c.self.inside.kept; told = c.self.inside.told; mode = c.self.inside.mode; news = c.self.inside.news.items; acts = c.self.inside.acts; is_wide = c.self.inside.is_wide; next = option_map Pattern c.self.inside.next } in
     let here : Stands given log old is = subst (λ (v : OnCourse). Stands given log v is) (sym c.self.view_is) s in
-    kept-so c.keep.result given log is old _ c.apply.new.self c.now-tick.result c.args.input here (keeps-inputs c.self.inside.mode (ap (λ (v : OnCourse). v.mode) c.self.view_is ∙ c.requires.keeping)) c.keep.ensures.mode c.keep.ensures.rows c.keep.ensures.acts (ap (λ (x : Stored). x.told) c.keep.ensures.told) c.now-tick.ensures.now
+    kept-so c.keep.result given log is old _ c.apply.new.self c.now-tick.result c.args.input here (keeps-inputs c.self.inside.mode (ap (λ (v : OnCourse). v.mode) c.self.view_is ∙ c.requires.keeping)) c.keep.ensures.mode c.keep.ensures.rows c.keep.ensures.acts c.keep.ensures.wide (ap (λ (x : Stored). x.told) c.keep.ensures.told) c.now-tick.ensures.now
     c.in-Ok.ensures.allowed c.in-Ok.ensures.state c.in-Ok.ensures.records c.in-Ok.ensures.back
     (quiet-news _ (c.keep.ensures.mode ∙ (ap (λ (v : OnCourse). v.mode) c.self.view_is ∙ c.requires.keeping))) c.keep.ensures.bench c.keep.ensures.kept c.keep.ensures.undone c.keep.ensures.still c.keep.ensures.memory
 

@@ -1,0 +1,13 @@
+pub mod Examples
+pub mod LongerLemmas
+pub mod ReadLemmas
+pub mod CallLemmas
+pub mod PreemptLemmas
+pub mod PhaseLemmas
+pub mod RingLemmas
+pub mod HeadLemmas
+pub mod RuleLemmas
+pub mod FoundLemmas
+pub mod CoordLemmas
+pub mod TickLemmas
+pub mod RunLemmas

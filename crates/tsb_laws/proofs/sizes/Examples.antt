@@ -1,0 +1,2 @@
+-- Computed examples of the definitions, and mistakes that they refuse.
+pub mod Examples

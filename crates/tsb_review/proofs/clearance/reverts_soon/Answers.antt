@@ -1,0 +1,7 @@
+use Rattle.std.proofs.Common.{rules}
+use Rattle.tsb_plan.specs.PlanOf.{plan_of}
+use Rattle.tsb_review.proofs.clearance.reverts_soon.Goals as goal
+
+pub returns-then-is_enabled : goal.returns-then-is_enabled
+unfolding plan_of
+returns-then-is_enabled c = search rules fits 100
