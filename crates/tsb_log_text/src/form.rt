@@ -50,7 +50,7 @@ pub(crate) fn form_of(text: &[u8]) -> RowForm
     }
 }
 
-/// The inputs that a line spells in either form, as a row does behind its tick, or `None` where it spells none.
+/// The inputs that a line spells in either form, as a row does after its tick, or `None` where it spells none.
 pub fn inputs_in(line: &[u8]) -> Option<Row>
     ensures { result ≡ inputs_in line.now }
 {

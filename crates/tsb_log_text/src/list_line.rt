@@ -89,7 +89,7 @@ fn push_item(line: &mut ListsLine, first: u8, end: u8)
     }
 }
 
-/// The last number, at most `most`, of the run of numbers that are on from `first`, which is, on.
+/// The last number, at most `most`, of the run of numbers that are on from `first`. That one is on.
 fn end_of_run(on: u64, first: u8, most: u8) -> u8
     requires from_one { 1 ≤ first }
     requires within { first ≤ most }

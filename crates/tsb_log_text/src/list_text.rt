@@ -9,7 +9,7 @@ use tsb_lines::number;
 use tsb_types::limits::{PEDESTRIAN_DETECTORS, PREEMPTS, VEHICLE_DETECTORS};
 use tsb_types::{DetectorSet, NumberSet, Row};
 
-/// What may follow a list: the words behind it, and none of these where there is no space.
+/// What may follow a list: the words after it, or none where no space follows.
 type Behind<'a> = Option<&'a [u8]>;
 
 /// The row that a line spells by lists, or `None` where it is not such a row.
@@ -52,9 +52,8 @@ pub fn lists_of(text: &[u8]) -> Option<Row>
     })
 }
 
-/// The numbers, as a list, that the list of a kind spells, which is the first of these words where some are on; and the
-/// words after it.
-/// `None` where it is not a list of numbers from 1 to `most`.
+/// The numbers, as a list, that the list of a kind spells, and the words after it. It is the first of these words where
+/// some are on. `None` where it is not a list of numbers from 1 to `most`.
 fn own_list(letter: u8, most: u8, words: Behind<'_>) -> Option<(u64, Behind<'_>)>
     requires few { most ≤ 64 }
     requires apart { (letter == 32) ≡ false }
@@ -73,7 +72,8 @@ fn own_list(letter: u8, most: u8, words: Behind<'_>) -> Option<(u64, Behind<'_>)
     Some((on, behind))
 }
 
-/// The numbers, as a list, that a list spells: numbers and ranges of numbers, with a comma between them, from 1 to `most` and rising.
+/// The numbers, as a list, that a list spells: numbers and ranges of numbers, with a comma between them. They rise, from
+/// 1 to `most` at most.
 fn list_in(list: &[u8], most: u8) -> Option<u64>
     requires { most ≤ 64 }
     ensures read { result ≡ list_spelled most list.now }
