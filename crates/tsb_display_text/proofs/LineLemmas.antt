@@ -12,6 +12,7 @@ use Rattle.tsb_heads.specs.Heads.{Heads}
 use Rattle.tsb_heads.specs.Promises.{IsSame}
 use Rattle.tsb_lines.specs.Digits.{digit}
 use Rattle.tsb_display_text.specs.Line.{line_in, line_of, wide_line_of, letter, pedestrian_letter, tick_field, vehicle_field, pedestrian_field, overlap_field, wide_overlap_field, local_field, preempt_digit}
+use Rattle.tsb_display_text.specs.Rounds.{IsOfRound}
 use Rattle.tsb_types.proofs.RunLemmas.{map-same}
 
 pub line-length : (now : ℕ) (heads : Heads) (preempt local : Option ℕ) → length (line_of now heads preempt local) ≡ 53
@@ -174,33 +175,61 @@ with_digits digits heads preempt local =
     ++ (32 ∷ overlap_field heads.overlap ++ (32 ∷ preempt_digit preempt ∷ 32 ∷ local_field local))))) ++ (32 ∷ wide_overlap_field heads.overlap)
 
 -- a line gets another tick number
-pub line-renumbered : (was now : ℕ) (heads : Heads) → placed 0 7 (tick_field now) (wide_line_of was heads None None) ≡ wide_line_of now heads None None
+pub line-renumbered : (was now : ℕ) (heads : Heads) (preempt local : Option ℕ) →
+    placed 0 7 (tick_field now) (wide_line_of was heads preempt local) ≡ wide_line_of now heads preempt local
 unfolding wide_line_of line_of run_from
-line-renumbered was now heads = refl
+line-renumbered was now heads preempt None = refl
+line-renumbered was now heads preempt (Some n) = refl
 
--- all digits but the last are those of the number with a 0 for its last one
-round-digits : (n : ℕ) → set (tick_field (n - n % 10)) 6 (digit n 1) ≡ tick_field n
-round-digits n =
-    let d1 : digit (n - n % 10) 1000000 ≡ digit n 1000000 = omega arith in
-    let d2 : digit (n - n % 10) 100000 ≡ digit n 100000 = omega arith in
-    let d3 : digit (n - n % 10) 10000 ≡ digit n 10000 = omega arith in
-    let d4 : digit (n - n % 10) 1000 ≡ digit n 1000 = omega arith in
-    let d5 : digit (n - n % 10) 100 ≡ digit n 100 = omega arith in
-    let d6 : digit (n - n % 10) 10 ≡ digit n 10 = omega arith in
-    λ i. d1 i ∷ d2 i ∷ d3 i ∷ d4 i ∷ d5 i ∷ d6 i ∷ digit n 1 ∷ []
+-- all digits but the last are those of each tick number of the round
+round-digits : (was now : ℕ) → was - was % 10 ≡ now - now % 10 → set (tick_field was) 6 (digit now 1) ≡ tick_field now
+round-digits was now same =
+    let d1 : digit was 1000000 ≡ digit now 1000000 = omega arith in
+    let d2 : digit was 100000 ≡ digit now 100000 = omega arith in
+    let d3 : digit was 10000 ≡ digit now 10000 = omega arith in
+    let d4 : digit was 1000 ≡ digit now 1000 = omega arith in
+    let d5 : digit was 100 ≡ digit now 100 = omega arith in
+    let d6 : digit was 10 ≡ digit now 10 = omega arith in
+    λ i. d1 i ∷ d2 i ∷ d3 i ∷ d4 i ∷ d5 i ∷ d6 i ∷ digit now 1 ∷ []
 
 -- a line gets its last digit, its preempt and its local counter
-filled : (round units : ℕ) (heads : Heads) (preempt local : Option ℕ) →
-    placed 49 4 (local_field local) (set (set (wide_line_of round heads None None) 6 units) 47 (preempt_digit preempt))
-    ≡ with_digits (set (tick_field round) 6 units) heads preempt local
+filled : (was units : ℕ) (heads : Heads) (preempt_was local_was preempt local : Option ℕ) →
+    placed 49 4 (local_field local) (set (set (wide_line_of was heads preempt_was local_was) 6 units) 47 (preempt_digit preempt))
+    ≡ with_digits (set (tick_field was) 6 units) heads preempt local
 unfolding wide_line_of line_of run_from
-filled round units heads preempt None = refl
-filled round units heads preempt (Some n) = refl
+filled was units heads preempt_was None preempt None = refl
+filled was units heads preempt_was None preempt (Some n) = refl
+filled was units heads preempt_was (Some m) preempt None = refl
+filled was units heads preempt_was (Some m) preempt (Some n) = refl
 
-pub line-filled : (now : ℕ) (heads : Heads) (preempt local : Option ℕ) →
-    placed 49 4 (local_field local) (set (set (wide_line_of (now - now % 10) heads None None) 6 (digit now 1)) 47 (preempt_digit preempt))
-    ≡ wide_line_of now heads preempt local
+with-digits : (now : ℕ) (heads : Heads) (preempt local : Option ℕ) → with_digits (tick_field now) heads preempt local ≡ wide_line_of now heads preempt local
 unfolding wide_line_of line_of
-line-filled now heads preempt local =
-    filled (now - now % 10) (digit now 1) heads preempt local
-    ∙ ap (λ (digits : List ℕ). with_digits digits heads preempt local) (round-digits now)
+with-digits now heads preempt local = refl
+
+-- so a line of a round becomes that of another tick of it
+pub line-filled : (line : List ℕ) (now : ℕ) (heads : Heads) (preempt local : Option ℕ) → IsOfRound line (now - now % 10) heads →
+    placed 49 4 (local_field local) (set (set line 6 (digit now 1)) 47 (preempt_digit preempt)) ≡ wide_line_of now heads preempt local
+unfolding IsOfRound
+line-filled line now heads preempt local (was, preempt_was, local_was, round, is) =
+    ap (λ (bytes : List ℕ). placed 49 4 (local_field local) (set (set bytes 6 (digit now 1)) 47 (preempt_digit preempt))) is
+    ∙ filled was (digit now 1) heads preempt_was local_was preempt local
+    ∙ ap (λ (digits : List ℕ). with_digits digits heads preempt local) (round-digits was now round)
+    ∙ with-digits now heads preempt local
+
+-- the line of a tick is one of its round
+pub of-round : (line : List ℕ) (now : ℕ) (heads : Heads) (preempt local : Option ℕ) → line ≡ wide_line_of now heads preempt local → IsOfRound line (now - now % 10) heads
+unfolding IsOfRound
+of-round line now heads preempt local is = (now, preempt, local, refl, is)
+
+-- that of a tick number that ends in 0 is one of its own
+pub of-own-round : (line : List ℕ) (now : ℕ) (heads : Heads) (preempt local : Option ℕ) → line ≡ wide_line_of (now - now % 10) heads preempt local → IsOfRound line (now - now % 10) heads
+unfolding IsOfRound
+of-own-round line now heads preempt local is = (now - now % 10, preempt, local, omega arith, is)
+
+-- a line gets the tick number of another round
+pub round-renumbered : (line : List ℕ) (round now : ℕ) (heads : Heads) → IsOfRound line round heads →
+    IsOfRound (placed 0 7 (tick_field (now - now % 10)) line) (now - now % 10) heads
+unfolding IsOfRound
+round-renumbered line round now heads (was, preempt, local, same, is) =
+    of-own-round (placed 0 7 (tick_field (now - now % 10)) line) now heads preempt local
+    (ap (placed 0 7 (tick_field (now - now % 10))) is ∙ line-renumbered was (now - now % 10) heads preempt local)

@@ -2,5 +2,7 @@
 pub mod Line
 -- the letters that a line has of heads
 pub mod Letters
+-- rounds: ten ticks whose lines differ in few bytes
+pub mod Rounds
 -- the names of crates below, for those above
 pub use Rattle.tsb_heads.specs as tsb_heads

@@ -1,7 +1,8 @@
 //! Display lines made one after another.
-ghost use Rattle.std.specs.Prelude.{◌≡◌, None};
+ghost use Rattle.std.specs.Prelude.{◌≡◌, if◌then◌else◌, None, false, take};
 ghost use Rattle.tsb_heads.specs.Reading.{heads_of};
 ghost use Rattle.tsb_display_text.specs.Line.{line_in, wide_line_of};
+ghost use Rattle.tsb_display_text.specs.Rounds.{IsOfRound};
 
 use crate::display_line::{LOCAL, PREEMPT, TICK, UNITS, WIDTH, WideBytes, bytes_of, put};
 use crate::letters::Letters;
@@ -33,99 +34,99 @@ impl LineText {
     pub fn as_bytes(&self) -> &[u8]
         ensures { result.now ≡ self.now }
     {
-        if self.is_wide {
-            &self.bytes
-        } else {
-            &self.bytes[..WIDTH]
-        }
+        shown(&self.bytes, self.is_wide)
     }
 }
 
-/// What the heads showed in a line, and that line, with all fields of a wide line. Its tick number ends in 0 here, and
-/// it has no preempt and no local counter.
-#[derive(Clone, Copy)]
-struct LastLine {
-    heads: Display,
-    /// The tick number with a 0 for its last digit.
-    round: u32,
-    line: WideBytes,
-}
-
-/// Makes display lines one after another. It finds letters anew only where the heads show something else than in the
-/// line before, as most ticks change no head. Most digits it finds only at each tenth tick. What it keeps shows in no
-/// line, so clauses see nothing of it.
+/// Makes display lines one after another, each in the place of the one before. It finds letters anew only where the heads
+/// show something else than in the line before, as most ticks change no head. Most digits it finds only at each tenth
+/// tick. Clauses see it as the bytes of the line that it made last.
 #[derive(Drop)]
 pub struct LineMaker {
-    last: Option<LastLine>,
+    /// The line, with all fields of a wide line.
+    line: WideBytes,
+    /// What the heads show in the line.
+    heads: Display,
+    /// The tick number of the line with a 0 for its last digit.
+    round: u32,
+    /// Whether the line is a wide one.
+    is_wide: bool,
 }
 
 impl Model for LineMaker {
-    ghost use Rattle.std.specs.Prelude.{◌≡◌, IfSome, None};
+    ghost use Rattle.std.specs.Prelude.{ℕ, List, if◌then◌else◌, take};
     ghost use Rattle.tsb_heads.specs.Reading.{heads_of};
-    ghost use Rattle.tsb_display_text.specs.Line.{wide_line_of};
+    ghost use Rattle.tsb_display_text.specs.Rounds.{IsOfRound};
 
-    ghost Value = { Unit {0} };
+    ghost Value = { List ℕ };
 
-    ghost view = { λ maker. tt };
+    ghost view = { λ maker. if maker.is_wide then maker.line else take 53 maker.line };
 
-    ghost invariant = { λ maker. IfSome maker.last (λ shown. shown.line ≡ wide_line_of shown.round (heads_of shown.heads) None None) };
+    ghost invariant = { λ maker. IsOfRound maker.line maker.round (heads_of maker.heads) };
 }
 
 impl LineMaker {
-    /// One that has made no line.
-    pub fn new() -> LineMaker {
-        LineMaker { last: None }
+    /// One whose line is that of these heads at tick 0, without a preempt and a local counter.
+    pub fn new(heads: &Display) -> LineMaker
+        ensures { result ≡ line_in false 0 (heads_of heads.now) None None }
+    {
+        LineMaker {
+            line: bytes_of(0, &Letters::of(heads), None, None),
+            heads: *heads,
+            round: 0,
+            is_wide: false,
+        }
     }
 
-    /// The display line at tick number `now`, without a line feed, as `line_bytes` gives it; or the wide line.
-    pub fn line_text(
+    /// Makes the display line at tick number `now`, without a line feed, as `line_bytes` gives it; or the wide line.
+    pub fn make(
         &mut self,
         is_wide: bool,
         now: u32,
         heads: &Display,
         preempt: Option<Preempt>,
         local: Option<u32>,
-    ) -> LineText
-        ensures { result ≡ line_in is_wide now (heads_of heads.now) preempt local }
+    )
+        ensures { self.new ≡ line_in is_wide now (heads_of heads.now) preempt local }
     {
-        let mut bytes = self.round_line(now - now % 10, heads);
-        bytes[UNITS] = digit(now, 1);
-        bytes[PREEMPT] = preempt_digit(preempt);
-        put(&mut bytes, LOCAL, &local_digits(local));
-        LineText { bytes, is_wide }
+        let round = now - now % 10;
+        if self.heads != *heads {
+            self.line = bytes_of(round, &Letters::of(heads), None, None);
+            self.heads = *heads;
+            self.round = round;
+        } else if self.round != round {
+            put(&mut self.line, TICK, &seven_digits(round));
+            self.round = round;
+        }
+        self.line[UNITS] = digit(now, 1);
+        self.line[PREEMPT] = preempt_digit(preempt);
+        put(&mut self.line, LOCAL, &local_digits(local));
+        self.is_wide = is_wide;
     }
 
-    /// The line of these heads at this tick number, without a preempt and a local counter. It is the one that is kept,
-    /// or another, which is then kept.
+    /// The bytes of the line that was made last.
     #[inline(always)]
-    fn round_line(&mut self, round: u32, heads: &Display) -> WideBytes
-        ensures { result ≡ wide_line_of round (heads_of heads.now) None None }
+    pub fn as_bytes(&self) -> &[u8]
+        ensures { result.now ≡ self.now }
     {
-        if let Some(last) = &self.last {
-            if last.round == round && last.heads == *heads {
-                return last.line;
-            }
-        }
-        let line = self.other_line(round, heads);
-        self.last = Some(LastLine {
-            heads: *heads,
-            round,
-            line,
-        });
-        line
+        shown(&self.line, self.is_wide)
     }
 
-    /// The line of these heads at another tick number than the one that is kept, or of other heads.
-    fn other_line(&self, round: u32, heads: &Display) -> WideBytes
-        ensures { result ≡ wide_line_of round (heads_of heads.now) None None }
+    /// A copy of the line that was made last.
+    pub fn text(&self) -> LineText
+        ensures { result ≡ self.now }
     {
-        if let Some(last) = &self.last {
-            if last.heads == *heads {
-                let mut line = last.line;
-                put(&mut line, TICK, &seven_digits(round));
-                return line;
-            }
+        LineText {
+            bytes: self.line,
+            is_wide: self.is_wide,
         }
-        bytes_of(round, &Letters::of(heads), None, None)
     }
+}
+
+/// What is shown of a line with all fields: all of it where it is wide.
+#[inline(always)]
+fn shown(line: &WideBytes, is_wide: bool) -> &[u8]
+    ensures { result.now ≡ (if is_wide then line.now else take 53 line.now) }
+{
+    if is_wide { line } else { &line[..WIDTH] }
 }

@@ -386,6 +386,7 @@ pub fn live<R: Read, W: Write>(
     let Ok(bench) = Bench::power_up(alloc, plan) else {
         return Err(SessionError::Memory);
     };
+    let lines = LineMaker::new(&bench.display());
     let mut run = LiveRun {
         alloc,
         course: Course::new(
@@ -395,7 +396,7 @@ pub fn live<R: Read, W: Write>(
             Mode::Keeping,
             acts,
         ),
-        lines: LineMaker::new(),
+        lines,
         echoes: false,
         on_fault,
         stop: None,

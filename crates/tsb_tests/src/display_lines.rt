@@ -96,16 +96,14 @@ fn makes(
     preempt: Option<Preempt>,
     wanted: &[u8],
 ) -> bool {
-    lines
-        .line_text(false, tick, display, preempt, None)
-        .as_bytes()
-        == wanted
+    lines.make(false, tick, display, preempt, None);
+    lines.as_bytes() == wanted
 }
 
 /// Whether a maker writes heads that stay, heads that change, and again those before.
 fn makes_all(plan: &Checked) -> bool {
-    let mut lines = LineMaker::new();
     let green = shown(plan, 34, 0, 2, 0, false);
+    let mut lines = LineMaker::new(&green);
     let yellow = shown(plan, 0, 34, 0, 0, false);
     let flash = shown(plan, 34, 0, 2, 0, true);
     makes(

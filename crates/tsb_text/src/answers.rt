@@ -46,8 +46,8 @@ pub fn obey<W: Write>(
     match task_of(command) {
         Task::Ticks(ticks) => step(course, lines, ticks, echo, pending, writer),
         Task::Show => {
-            let line = course.line_text(lines);
-            pending.say(writer, line.as_bytes())?;
+            course.make_line(lines);
+            pending.say(writer, lines.as_bytes())?;
             Ok(None)
         }
         Task::Quit => Ok(None),
@@ -101,9 +101,9 @@ fn say_tick<W: Write>(
     ensures blame { writer.old.failed ≡ false → AfterCalls result writer.new.failed }
 {
     course.say_news(pending, writer)?;
-    let line = course.line_text(lines);
+    course.make_line(lines);
     let refusal = follow(course, pending, writer)?;
-    pending.say(writer, line.as_bytes())?;
+    pending.say(writer, lines.as_bytes())?;
     say_if_refused(refusal, echo, pending, writer)
 }
 

@@ -25,7 +25,7 @@ ghost use Rattle.tsb_text.specs.Wanting.{IsWanting, WantsAfter, WantsTo, tick_of
 
 use crate::Kept;
 use crate::events::say_events;
-use crate::lines::shown_line;
+use crate::lines::make_line;
 use crate::recording::Told;
 use crate::rows::Rows;
 use std::alloc::Global;
@@ -33,7 +33,7 @@ use std::io::Write;
 use std::marker::Model;
 use tsb_bench::{Answer, Bench, Cmd, Input, Kind, Noted, answer};
 use tsb_dialog::{Pending, Watched, WriteError};
-use tsb_display_text::{LineMaker, LineText};
+use tsb_display_text::LineMaker;
 use tsb_events::Events;
 use tsb_objects::{Refusal, Row};
 use tsb_step::log_form::LogForm;
@@ -114,14 +114,14 @@ impl<'a> Course<'a> {
         &self.bench
     }
 
-    /// The display line, wide or not, without a line feed. The heads are found anew only where a cell has changed, and all
-    /// stays as it was. It takes no memory.
-    pub fn line_text(&mut self, lines: &mut LineMaker) -> LineText
-        ensures line { result ≡ line_in self.old.is_wide (state_of self.old.bench) }
-        ensures short { length result ≤ 70 }
+    /// Makes the display line, wide or not, without a line feed. The heads are found anew only where a cell has changed, and
+    /// all else stays as it was. It takes no memory.
+    pub fn make_line(&mut self, lines: &mut LineMaker)
+        ensures line { lines.new ≡ line_in self.old.is_wide (state_of self.old.bench) }
+        ensures short { length lines.new ≤ 70 }
         ensures same { self.new ≡ self.old }
     {
-        shown_line(lines, self.is_wide, &mut self.bench)
+        make_line(lines, self.is_wide, &mut self.bench)
     }
 
     /// Whether display lines are wide.

@@ -32,24 +32,25 @@ pub fn line_text(lines: &mut LineMaker, is_wide: bool, bench: &Bench) -> LineTex
     ensures line { result ≡ line_in is_wide (state_of bench.now) }
     ensures short { length result ≤ 70 }
 {
-    lines.line_text(
+    lines.make(
         is_wide,
         bench.now(),
         &bench.display(),
         preempt_in_service(bench),
         bench.local(),
-    )
+    );
+    lines.text()
 }
 
-/// The display line, as `line_text` has it, of the heads that the bench keeps while no cell changes. The bench stays as it
-/// was.
-pub(crate) fn shown_line(lines: &mut LineMaker, is_wide: bool, bench: &mut Bench) -> LineText
-    ensures line { result ≡ line_in is_wide (state_of bench.old) }
-    ensures short { length result ≤ 70 }
+/// Makes the display line, without a line feed, or the wide one, of the heads that the bench keeps while no cell changes.
+/// The bench stays as it was. It takes no memory.
+pub(crate) fn make_line(lines: &mut LineMaker, is_wide: bool, bench: &mut Bench)
+    ensures line { lines.new ≡ line_in is_wide (state_of bench.old) }
+    ensures short { length lines.new ≤ 70 }
     ensures same { bench.new ≡ bench.old }
 {
     let shown = bench.shown();
-    lines.line_text(
+    lines.make(
         is_wide,
         bench.now(),
         &shown,

@@ -123,9 +123,10 @@ pub fn session<R: Read, W: Write>(
         return Err(SessionError::Memory);
     };
     let rows = Rows::OfLog { log, place: 0 };
+    let lines = LineMaker::new(&bench.display());
     let mut machine = SessionRun {
         course: Course::new(alloc, bench, rows, Mode::Plain, acts),
-        lines: LineMaker::new(),
+        lines,
     };
     as_session(converse(&mut machine, COMMANDS, reader, writer))
 }

@@ -12,11 +12,11 @@ returns-in-Ticks-clause-done g c given log is s = rw (sym c.task_of.ensures.task
 
 pub returns-in_err-say-in-Show-clause-done : goal.returns-in_err-say-in-Show-clause-done
 returns-in_err-say-in-Show-clause-done g c given log is s = let p = err_from_is_err_and c.from_residual.result c.from_residual.ensures.1 in
-    rw (p.1, sym c.task_of.ensures.task ∙ c.in-Show.is) (show-fault p.0 given log (besides_of c.args.course.now c.args.echo.now) is c.args.course.now _ _ _ _ c.as_bytes.result.now s (c.as_bytes.ensures ∙ c.line_text-line.ensures.line) c.in_err-say-in-Show.ensures.fault)
+    rw (p.1, sym c.task_of.ensures.task ∙ c.in-Show.is) (show-fault p.0 given log (besides_of c.args.course.now c.args.echo.now) is c.args.course.now _ _ _ _ c.as_bytes.result.now s (c.as_bytes.ensures ∙ c.make_line.ensures.line) c.in_err-say-in-Show.ensures.fault)
 
 pub returns-in_ok-say-in-Show-clause-done : goal.returns-in_ok-say-in-Show-clause-done
 returns-in_ok-say-in-Show-clause-done g c given log is s =
-    rw (sym c.task_of.ensures.task ∙ c.in-Show.is, c.line_text-line.ensures.same) (show-done given log (besides_of c.args.course.now c.args.echo.now) is c.args.course.now _ _ _ _ c.as_bytes.result.now s (c.as_bytes.ensures ∙ c.line_text-line.ensures.line) c.in_ok-say-in-Show.ensures.ok)
+    rw (sym c.task_of.ensures.task ∙ c.in-Show.is, c.make_line.ensures.same) (show-done given log (besides_of c.args.course.now c.args.echo.now) is c.args.course.now _ _ _ _ c.as_bytes.result.now s (c.as_bytes.ensures ∙ c.make_line.ensures.line) c.in_ok-say-in-Show.ensures.ok)
 
 pub returns-in-Quit-clause-done : goal.returns-in-Quit-clause-done
 returns-in-Quit-clause-done g c given log is s =

@@ -13,15 +13,15 @@ returns-in_err-say_news-clause-done g c given log is s = let p = err_from_is_err
 pub returns-in_err-refusal-clause-done : goal.returns-in_err-refusal-clause-done
 returns-in_err-refusal-clause-done g c given log is s = let p = err_from_is_err_and c.from_residual-in_err-refusal.result c.from_residual-in_err-refusal.ensures.1 in
     rw p.1 (trails-cut-next given (besides_of c.args.course.now c.args.echo.now) is c.args.course.now.next (news_in c.args.course.now) (line_in given.is_wide (state_of c.args.course.now.bench)) log c.follow.new.course _ _ _ _ _ _ p.0
-    c.in_ok-say_news.ensures.said (follow-there (Err p.0) c.args.course.now c.line_text-line.new.self c.follow.new.course _ _ _ _ c.line_text-line.ensures.same c.in_err-refusal.ensures.done given log is s))
+    c.in_ok-say_news.ensures.said (follow-there (Err p.0) c.args.course.now c.make_line.new.self c.follow.new.course _ _ _ _ c.make_line.ensures.same c.in_err-refusal.ensures.done given log is s))
 
 pub returns-in_err-say-clause-done : goal.returns-in_err-say-clause-done
 returns-in_err-say-clause-done g c given log is s = let p = err_from_is_err_and c.from_residual-in_err-say.result c.from_residual-in_err-say.ensures.1 in
     rw p.1 (trails-cut-line given (besides_of c.args.course.now c.args.echo.now) is c.args.course.now.next (news_in c.args.course.now) (line_in given.is_wide (state_of c.args.course.now.bench)) log c.follow.new.course c.in_ok-refusal.refusal _ _ _ _ _ _ _ _ p.0
-    c.in_ok-say_news.ensures.said (follow-there (Ok c.in_ok-refusal.refusal) c.args.course.now c.line_text-line.new.self c.follow.new.course _ _ _ _ c.line_text-line.ensures.same c.in_ok-refusal.ensures.done given log is s) c.in_err-say.ensures.fault)
+    c.in_ok-say_news.ensures.said (follow-there (Ok c.in_ok-refusal.refusal) c.args.course.now c.make_line.new.self c.follow.new.course _ _ _ _ c.make_line.ensures.same c.in_ok-refusal.ensures.done given log is s) c.in_err-say.ensures.fault)
 
 pub returns-clause-done : goal.returns-clause-done
 returns-clause-done g c given log is s =
     trails-so given (besides_of c.args.course.now c.args.echo.now) is c.args.course.now.next (news_in c.args.course.now) (line_in given.is_wide (state_of c.args.course.now.bench)) log c.follow.new.course c.in_ok-refusal.refusal _ _ _ _ _ _ _ _ c.say_if_refused.result _ _ c.as_bytes.result.now
-    (c.as_bytes.ensures ∙ c.line_text-line.ensures.line ∙ ap (λ (w : Bool). line_in w (state_of c.args.course.now.bench)) s.wide)
-    c.in_ok-say_news.ensures.said (follow-there (Ok c.in_ok-refusal.refusal) c.args.course.now c.line_text-line.new.self c.follow.new.course _ _ _ _ c.line_text-line.ensures.same c.in_ok-refusal.ensures.done given log is s) c.in_ok-say.ensures.ok c.say_if_refused.ensures.told c.say_if_refused.ensures.said
+    (c.as_bytes.ensures ∙ c.make_line.ensures.line ∙ ap (λ (w : Bool). line_in w (state_of c.args.course.now.bench)) s.wide)
+    c.in_ok-say_news.ensures.said (follow-there (Ok c.in_ok-refusal.refusal) c.args.course.now c.make_line.new.self c.follow.new.course _ _ _ _ c.make_line.ensures.same c.in_ok-refusal.ensures.done given log is s) c.in_ok-say.ensures.ok c.say_if_refused.ensures.told c.say_if_refused.ensures.said
