@@ -4,7 +4,7 @@
 use Rattle.std.specs.Prelude.{◌≡◌, ℕ, zero, suc, ◌+◌, ◌-◌, ◌*◌, ◌/◌, ◌≤◌, ◌==◌, List, [], ◌∷◌, ◌++◌, length, All, slice_index, if◌then◌else◌}
 use Rattle.std.specs.Int.{w16, w32, to_le_bytes}
 use Rattle.tsb_history.specs.declared.kinds.Kind.{Kind}
-use Rattle.tsb_history.specs.declared.kinds.Kind.TheVariants.{Tick, Pattern, Switch, Fault, Reset, Begin, Set, Verify, Commit, Abort, Clock}
+use Rattle.tsb_history.specs.declared.kinds.Kind.TheVariants.{Tick, Pattern, Switch, Fault, Reset, Begin, Set, Verify, Commit, Abort, Clock, Omit}
 use Rattle.tsb_history.specs.History.{Change, FitsRecord}
 
 -- the byte of a kind
@@ -20,8 +20,9 @@ code_of Verify = 7
 code_of Commit = 8
 code_of Abort = 9
 code_of Clock = 10
+code_of Omit = 11
 
--- the kind of a byte; no kind has a byte above 10
+-- the kind of a byte; no kind has a byte above 11
 abbrev pub kind_of : ℕ → Kind
 kind_of n =
     if n == 0 then Tick
@@ -34,7 +35,8 @@ kind_of n =
     else if n == 7 then Verify
     else if n == 8 then Commit
     else if n == 9 then Abort
-    else Clock
+    else if n == 10 then Clock
+    else Omit
 
 -- an entry: the cell in two bytes and its old value in four, least first
 abbrev pub entry_bytes : ℕ × ℕ → List ℕ

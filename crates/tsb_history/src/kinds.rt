@@ -1,8 +1,8 @@
 ghost use Rattle.std.specs.Prelude.{◌≡◌};
 ghost use Rattle.tsb_history.specs.Bytes.{code_of, kind_of};
 
-/// What an input was. In the bytes of a history a kind is one number, from 0 for `Tick` to 10 for
-/// `Clock`, in this order.
+/// What an input was. In the bytes of a history a kind is one number, from 0 for `Tick` to 11 for
+/// `Omit`, in this order.
 #[derive(Clone, Copy, Debug, PartialEq, Eq)]
 pub enum Kind {
     /// A tick of the clock.
@@ -27,6 +27,8 @@ pub enum Kind {
     Abort,
     /// A clock that was set.
     Clock,
+    /// Arrows that were omitted, or let flash again.
+    Omit,
 }
 
 impl Kind {
@@ -45,6 +47,7 @@ impl Kind {
             Kind::Commit => 8,
             Kind::Abort => 9,
             Kind::Clock => 10,
+            Kind::Omit => 11,
         }
     }
 
@@ -62,7 +65,8 @@ impl Kind {
             7 => Kind::Verify,
             8 => Kind::Commit,
             9 => Kind::Abort,
-            _ => Kind::Clock,
+            10 => Kind::Clock,
+            _ => Kind::Omit,
         }
     }
 }

@@ -3,8 +3,9 @@ use Rattle.std.proofs.Common.{◌≡◌, ℕ, zero, suc, ◌≢◌, ◌⊎◌, �
 use Rattle.std.proofs.lemmas.Bool.{cases_lt, eq-eqb}
 use Rattle.std.proofs.lemmas.Bool.Decides.{nat_tests, eqb_tells, same_from_decides}
 use Rattle.tsb_plan.specs.declared.object.Object.{Object}
-use Rattle.tsb_plan.specs.declared.object.Object.TheVariants.{PhaseConcurrency}
+use Rattle.tsb_plan.specs.declared.object.Object.TheVariants.{OverlapTrailGreen, OverlapType, PhaseConcurrency}
 use Rattle.tsb_plan.specs.Objects.{AreInRange, indices, has_index, value_in}
+use Rattle.tsb_plan.specs.Parts.{is_arrow, trails}
 use Rattle.tsb_plan.specs.Plan.{is_concurrent}
 use Rattle.tsb_plan.specs.PlanOf.{plan_in}
 use Rattle.tsb_rules.specs.Consistent.{IsPhase}
@@ -33,6 +34,18 @@ is-some (suc k) =
     let least : nat_le 1 (suc k) ≡ true = grind (arith, nat_tests) in
     let some : (suc k == 0) ≡ false = grind (arith, nat_tests) in
     rw (least, some) refl
+
+-- and after the last overlap none is an arrow, or trails
+pub no-arrow-behind : (cells : List ℕ) (o : ℕ) → 16 < o → is_arrow (plan_in cells) o ≡ false
+no-arrow-behind cells o behind =
+    let none : (value_in cells OverlapType o == 2) ≡ false = none-behind cells OverlapType o 2 (omega arith) behind in
+    rw none refl
+
+pub no-trail-behind : (cells : List ℕ) (o : ℕ) → 16 < o → trails (plan_in cells) o ≡ false
+no-trail-behind cells o behind =
+    let none : not (value_in cells OverlapTrailGreen o == 0) ≡ false =
+    sym (is-some (value_in cells OverlapTrailGreen o)) ∙ no-value-behind cells OverlapTrailGreen o behind in
+    rw none refl
 
 -- a list of phases names none that is no phase
 named-outside : (list p : ℕ) → list ≤ 65535 → 16 < p → names list p ≡ false

@@ -2,6 +2,8 @@
 pub mod Instants
 -- the tables of phases and detectors of a checked plan
 pub mod Tables
+-- the overlaps that have intervals of their own, as sets
+pub mod TimedOverlaps
 -- the tables of patterns and of free operation of a checked plan
 pub mod PatternTables
 -- the unions of sets of phases that a checked plan has at hand

@@ -5,6 +5,7 @@ use Rattle.tsb_plan.specs.Plan.{Plan, is_enabled, is_non_locking, has_soft_recal
 use Rattle.tsb_objects.specs.declared.detector_tables.DetectorTables.{DetectorTables}
 use Rattle.tsb_objects.specs.declared.part_tables.PartTables.{PartTables}
 use Rattle.tsb_objects.specs.declared.tables.PhaseTables.{PhaseTables}
+use Rattle.tsb_objects.specs.TimedOverlaps.{AreArrows, AreTimed}
 use Rattle.tsb_rules.specs.Rules.{has_walk}
 use Rattle.tsb_types.specs.Sets.{names, has, has_detector, has_number}
 
@@ -27,4 +28,6 @@ pub record AreDetectorTables (plan : Plan) (tables : DetectorTables) : Type 0 wh
 -- what the tables of overlaps and preempts say
 pub record ArePartTables (plan : Plan) (tables : PartTables) : Type 0 where
   pub overlaps : (o : ℕ) → has_number tables.overlaps o ≡ not (plan.value OverlapIncludedPhases o == 0)
+  pub arrows : AreArrows plan tables.arrows
+  pub timed : AreTimed plan tables.timed
   pub preempts : (n : ℕ) → has_number tables.preempts n ≡ not (plan.value PreemptDwellPhase n == 0)

@@ -27,7 +27,7 @@ pub use tsb_plan::{
 pub use tsb_rules::{Rule, check, split_end};
 pub use tsb_types::{
     Aspect, Called, Detector, DetectorSet, Interval, Intervals, Lamp, Moves, NumberSet, Orders,
-    Overlap, Pattern, PedestrianAspect, PedestrianColor, PedestrianDetector, PedestrianInterval,
-    Pedestrians, Phase, PhaseSet, Preempt, Refusal, Ring, RingMoves, Row, Sequence, Side,
-    SignalColor, Split, Stage, Station, Timing, Watch, limits,
+    Overlap, OverlapLights, Pattern, PedestrianAspect, PedestrianColor, PedestrianDetector,
+    PedestrianInterval, Pedestrians, Phase, PhaseSet, Preempt, Refusal, Ring, RingMoves, Row,
+    Sequence, Side, SignalColor, Split, Stage, Station, Timing, Watch, limits,
 };

@@ -1,5 +1,5 @@
 -- The days before a day: the first of them, and the rest; and what is the same of two moments of one minute.
-use Rattle.std.proofs.Common.{◌≡◌, ℕ, suc, ◌+◌, ◌-◌, ◌/◌, ◌%◌, ◌<◌, Option, refl, ap, ap₂, ◌∙◌, arith}
+use Rattle.std.proofs.Common.{◌≡◌, ℕ, suc, ◌+◌, ◌-◌, ◌/◌, ◌<◌, ap, ap₂, ◌∙◌, arith}
 use Rattle.tsb_types.specs.Lists.{or_else, or_number}
 use Rattle.tsb_types.specs.declared.clock_time.TheConstants.{DAY}
 use Rattle.tsb_plan.specs.Plan.{Plan}

@@ -1,5 +1,5 @@
 -- A run of numbers is its first and the rest, and empty past its end.
-use Rattle.std.proofs.Common.{◌≡◌, ℕ, suc, ◌+◌, ◌-◌, ◌<◌, ◌≤◌, List, [], ◌∷◌, refl, arith}
+use Rattle.std.proofs.Common.{◌≡◌, ℕ, suc, ◌+◌, ◌-◌, ◌<◌, ◌≤◌, [], ◌∷◌, refl, arith}
 use Rattle.tsb_types.specs.Lists.{run_from}
 
 pub run-first : (a b : ℕ) → a ≤ b → run_from a (b + 1 - a) ≡ a ∷ run_from (a + 1) (b + 1 - (a + 1))

@@ -1,6 +1,6 @@
 -- Which action of the schedule is in force at a moment: that of the latest event at or before it. Where none has come that
 -- day it is the last one of the day before, and so back for a year at most. With none operation is free.
-use Rattle.std.specs.Prelude.{ℕ, zero, suc, ◌+◌, ◌-◌, ◌*◌, ◌/◌, ◌%◌, ◌==◌, nat_le, nat_lt, Bool, not, ◌&&◌, if◌then◌else◌, List, [], ◌∷◌, Option, Some, None}
+use Rattle.std.specs.Prelude.{ℕ, zero, suc, ◌+◌, ◌-◌, ◌/◌, ◌%◌, ◌==◌, nat_le, nat_lt, Bool, not, ◌&&◌, if◌then◌else◌, List, [], ◌∷◌, Option, Some, None}
 use Rattle.tsb_types.specs.Lists.{run_from, or_else, or_number}
 use Rattle.tsb_types.specs.declared.clock_time.TheConstants.{DAY}
 use Rattle.tsb_plan.specs.Plan.{Plan}

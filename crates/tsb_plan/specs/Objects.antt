@@ -3,7 +3,7 @@
 -- 1202; ranges of detector, pattern and preempt objects are the profile's.
 use Rattle.std.specs.Prelude.{ℕ, ◌+◌, ◌-◌, ◌≤◌, Bool, true, false, ◌&&◌, nat_le, if◌then◌else◌, List, codes, sum_by, take, slice_index}
 use Rattle.tsb_plan.specs.declared.object.Object.{Object}
-use Rattle.tsb_plan.specs.declared.object.Object.TheVariants.{PhaseEnabled, PhaseNonLock, PhaseMinRecall, PhaseMaxRecall, PhasePedRecall, PhaseSoftRecall, PhaseDualEntry, PhaseSimGapDisable, PhaseRestInWalk, PhaseVariableInitial, PhaseRing, PhaseSide, PhaseConcurrency, PhaseWalk, PhasePedestrianClear, PhaseMinimumGreen, PhaseMaximum1, PhaseMaximum2, PhaseMaximumInitial, PhaseTimeBeforeReduction, PhaseTimeToReduce, PhasePassage, PhaseYellowChange, PhaseRedClear, PhaseRedRevert, PhaseAddedInitial, PhaseMinimumGap, PhaseCarsBeforeReduction, VehicleDetectorCallPhase, VehicleDetectorDelay, VehicleDetectorExtend, VehicleDetectorNoActivity, VehicleDetectorMaxPresence, VehicleDetectorErraticCounts, VehicleDetectorFailTime, PedestrianDetectorCallPhase, OverlapIncludedPhases, PatternCycleTime, PatternOffsetTime, PatternSplitNumber, PatternSequenceNumber, SplitTime, SplitMode, SplitCoordPhase, SequenceData, PreemptDelay, PreemptMinimumDuration, PreemptMaximumPresence, PreemptMinimumGreen, PreemptMinimumWalk, PreemptEnterPedClear, PreemptTrackGreen, PreemptTrackPhase, PreemptDwellPhase, PreemptExitPhase, UnitRedRevert, UnitMax2, PhaseDynamicMaxLimit, PhaseDynamicMaxStep, OverlapType, OverlapModifierPhases, CoordForceMode, CoordMaximumMode, PatternPermissiveTime, PatternLeadLag, PhasePedestrianRecycle, CoordCorrectionMode, CoordCorrectionLimit, OverlapAcrossRings, PreemptChoosesAnew, CoordReference, TimeBaseScheduleMonth, TimeBaseScheduleDay, TimeBaseScheduleDate, TimeBaseScheduleDayPlan, DayPlanHour, DayPlanMinute, DayPlanActionNumber, TimebaseAscPattern}
+use Rattle.tsb_plan.specs.declared.object.Object.TheVariants.{PhaseEnabled, PhaseNonLock, PhaseMinRecall, PhaseMaxRecall, PhasePedRecall, PhaseSoftRecall, PhaseDualEntry, PhaseSimGapDisable, PhaseRestInWalk, PhaseVariableInitial, PhaseRing, PhaseSide, PhaseConcurrency, PhaseWalk, PhasePedestrianClear, PhaseMinimumGreen, PhaseMaximum1, PhaseMaximum2, PhaseMaximumInitial, PhaseTimeBeforeReduction, PhaseTimeToReduce, PhasePassage, PhaseYellowChange, PhaseRedClear, PhaseRedRevert, PhaseAddedInitial, PhaseMinimumGap, PhaseCarsBeforeReduction, VehicleDetectorCallPhase, VehicleDetectorDelay, VehicleDetectorExtend, VehicleDetectorNoActivity, VehicleDetectorMaxPresence, VehicleDetectorErraticCounts, VehicleDetectorFailTime, PedestrianDetectorCallPhase, OverlapIncludedPhases, PatternCycleTime, PatternOffsetTime, PatternSplitNumber, PatternSequenceNumber, SplitTime, SplitMode, SplitCoordPhase, SequenceData, PreemptDelay, PreemptMinimumDuration, PreemptMaximumPresence, PreemptMinimumGreen, PreemptMinimumWalk, PreemptEnterPedClear, PreemptTrackGreen, PreemptTrackPhase, PreemptDwellPhase, PreemptExitPhase, UnitRedRevert, UnitMax2, PhaseDynamicMaxLimit, PhaseDynamicMaxStep, OverlapType, OverlapModifierPhases, CoordForceMode, CoordMaximumMode, PatternPermissiveTime, PatternLeadLag, PhasePedestrianRecycle, CoordCorrectionMode, CoordCorrectionLimit, OverlapAcrossRings, PreemptChoosesAnew, CoordReference, TimeBaseScheduleMonth, TimeBaseScheduleDay, TimeBaseScheduleDate, TimeBaseScheduleDayPlan, DayPlanHour, DayPlanMinute, DayPlanActionNumber, TimebaseAscPattern, OverlapArrowDelay, OverlapArrowPedestrian, OverlapTrailGreen, OverlapTrailYellow, OverlapTrailRed, ActionArrowOmit, ChannelControlSource, ChannelControlType}
 use Rattle.tsb_plan.specs.declared.object.Range.{Range}
 use Rattle.tsb_plan.specs.declared.object.TheConstants.Object.{ALL}
 use Rattle.tsb_plan.specs.declared.version.Version.{Version}
@@ -119,7 +119,7 @@ row UnitRedRevert = object 55 (codes "unitRedRevert") (to 1 255) (in_1 1 255) fr
 row UnitMax2 = object 56 (codes "unitMax2") (to 1 1) (in_1 1 1) free
 row PhaseDynamicMaxLimit = object 57 (codes "phaseDynamicMaxLimit") (to 16 255) since_2 free
 row PhaseDynamicMaxStep = object 58 (codes "phaseDynamicMaxStep") (to 16 255) since_2 free
-row OverlapType = object 59 (codes "overlapType") (to 16 1) since_2 structural
+row OverlapType = object 59 (codes "overlapType") (to 16 2) since_2 structural
 row OverlapModifierPhases = object 60 (codes "overlapModifierPhases") (to 16 65535) since_2 structural
 row CoordForceMode = object 61 (codes "coordForceMode") (to 1 2) since_2 free
 row CoordMaximumMode = object 62 (codes "coordMaximumMode") (to 1 2) since_2 free
@@ -139,6 +139,14 @@ row DayPlanHour = object 75 (codes "dayPlanHour") (to 256 23) since_3 free
 row DayPlanMinute = object 76 (codes "dayPlanMinute") (to 256 59) since_3 free
 row DayPlanActionNumber = object 77 (codes "dayPlanActionNumber") (to 256 32) since_3 free
 row TimebaseAscPattern = object 78 (codes "timebaseAscPattern") (to 32 254) since_3 free
+row OverlapArrowDelay = object 79 (codes "overlapArrowDelay") (to 16 255) since_3 free
+row OverlapArrowPedestrian = object 80 (codes "overlapArrowPedestrian") (to 16 1) since_3 free
+row OverlapTrailGreen = object 81 (codes "overlapTrailGreen") (to 16 255) since_3 structural
+row OverlapTrailYellow = object 82 (codes "overlapTrailYellow") (to 16 255) since_3 free
+row OverlapTrailRed = object 83 (codes "overlapTrailRed") (to 16 255) since_3 free
+row ActionArrowOmit = object 84 (codes "actionArrowOmit") (to 32 65535) since_3 free
+row ChannelControlSource = object 85 (codes "channelControlSource") (to 16 16) since_3 free
+row ChannelControlType = object 86 (codes "channelControlType") (to 16 4) since_3 free
 
 -- all objects, in the order of their places
 unfoldable pub objects : List Object

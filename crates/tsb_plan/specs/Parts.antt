@@ -1,9 +1,9 @@
 -- What a plan says of detectors, overlaps, patterns, splits and preempts, each named by its number from 1. Times are in
 -- tenths of a second. Names are those of NTCIP 1202; the numbers of split modes, overlap types and force modes are the
--- profile's own. So are permissive time, lead and lag, overlaps across rings, preempts that choose anew, and what
--- offsets are counted to.
-use Rattle.std.specs.Prelude.{ℕ, ◌+◌, ◌-◌, ◌*◌, ◌==◌, Bool, false, not, if◌then◌else◌, Option, Some, None}
-use Rattle.tsb_plan.specs.declared.object.Object.TheVariants.{VehicleDetectorCallPhase, VehicleDetectorDelay, VehicleDetectorExtend, VehicleDetectorNoActivity, VehicleDetectorMaxPresence, VehicleDetectorErraticCounts, VehicleDetectorFailTime, PedestrianDetectorCallPhase, OverlapIncludedPhases, PatternCycleTime, PatternOffsetTime, PatternSplitNumber, PatternSequenceNumber, SplitTime, SplitMode as SplitModeObject, SplitCoordPhase, PreemptDelay, PreemptMinimumDuration, PreemptMaximumPresence, PreemptMinimumGreen, PreemptMinimumWalk, PreemptEnterPedClear, PreemptTrackGreen, PreemptTrackPhase, PreemptDwellPhase, PreemptExitPhase, OverlapType, OverlapModifierPhases, CoordForceMode, PatternPermissiveTime, PatternLeadLag, CoordCorrectionMode, CoordCorrectionLimit, OverlapAcrossRings, PreemptChoosesAnew, CoordReference}
+-- profile's own. So are permissive time, lead and lag, overlaps across rings, arrows with their delay and crosswalks,
+-- preempts that choose anew, and what offsets are counted to.
+use Rattle.std.specs.Prelude.{ℕ, ◌+◌, ◌-◌, ◌*◌, ◌==◌, Bool, false, not, ◌&&◌, ◌||◌, if◌then◌else◌, Option, Some, None}
+use Rattle.tsb_plan.specs.declared.object.Object.TheVariants.{VehicleDetectorCallPhase, VehicleDetectorDelay, VehicleDetectorExtend, VehicleDetectorNoActivity, VehicleDetectorMaxPresence, VehicleDetectorErraticCounts, VehicleDetectorFailTime, PedestrianDetectorCallPhase, OverlapIncludedPhases, PatternCycleTime, PatternOffsetTime, PatternSplitNumber, PatternSequenceNumber, SplitTime, SplitMode as SplitModeObject, SplitCoordPhase, PreemptDelay, PreemptMinimumDuration, PreemptMaximumPresence, PreemptMinimumGreen, PreemptMinimumWalk, PreemptEnterPedClear, PreemptTrackGreen, PreemptTrackPhase, PreemptDwellPhase, PreemptExitPhase, OverlapType, OverlapModifierPhases, CoordForceMode, PatternPermissiveTime, PatternLeadLag, CoordCorrectionMode, CoordCorrectionLimit, OverlapAcrossRings, PreemptChoosesAnew, CoordReference, OverlapArrowDelay, OverlapArrowPedestrian, OverlapTrailGreen, OverlapTrailYellow, OverlapTrailRed}
 use Rattle.tsb_plan.specs.declared.plan.patterns.CorrectionMode.{CorrectionMode}
 use Rattle.tsb_plan.specs.declared.plan.patterns.CorrectionMode.TheVariants.{AtOnce, Dwell, ShortWay, AddOnly}
 use Rattle.tsb_plan.specs.declared.plan.patterns.OffsetReference.{OffsetReference}
@@ -61,17 +61,54 @@ abbrev pub is_included : Plan → ℕ → ℕ → Bool
 is_included plan o p = names (plan.value OverlapIncludedPhases o) p
 
 -- phase p is a modifier phase of overlap o: it takes away the green of a minusGreenYellow overlap while p is Green, and
--- its yellow while p is Yellow
+-- its yellow while p is Yellow; of an arrow it is the protected turn
 abbrev pub is_modifier : Plan → ℕ → ℕ → Bool
 is_modifier plan o p = names (plan.value OverlapModifierPhases o) p
 
--- the overlap is of type 1, minusGreenYellow, which alone heeds modifier phases; type 0 is normal
+-- the overlap is of type 1, minusGreenYellow; type 0 is normal, and heeds no modifier phases
 abbrev pub is_minus_green_yellow : Plan → ℕ → Bool
 is_minus_green_yellow plan o = plan.value OverlapType o == 1
 
 -- the overlap is green, too, through the clearance of an included phase to one of the other ring
 abbrev pub overlaps_across_rings : Plan → ℕ → Bool
 overlaps_across_rings plan o = plan.value OverlapAcrossRings o == 1
+
+-- the overlap includes no phase, so it has no head
+abbrev pub includes_none : Plan → ℕ → Bool
+includes_none plan o = plan.value OverlapIncludedPhases o == 0
+
+-- the overlap is of type 2, a flashing yellow arrow: its included phases are those that oppose the turn, and its modifier
+-- phase, one by K28, is the protected turn
+abbrev pub is_arrow : Plan → ℕ → Bool
+is_arrow plan o = plan.value OverlapType o == 2 && not (includes_none plan o)
+
+-- so long has the green of an included phase lasted before an arrow begins to flash, in tenths of a second
+abbrev pub arrow_delay : Plan → ℕ → ℕ
+arrow_delay plan o = plan.value OverlapArrowDelay o
+
+-- an arrow does not flash while the crosswalk of an included phase shows walk or clearance
+abbrev pub heeds_pedestrians : Plan → ℕ → Bool
+heeds_pedestrians plan o = plan.value OverlapArrowPedestrian o == 1
+
+-- the overlap trails: it stays green after its phases, then has a yellow and a red clearance of its own
+abbrev pub trails : Plan → ℕ → Bool
+trails plan o = not (plan.value OverlapTrailGreen o == 0) && not (includes_none plan o)
+
+-- how long it stays green after its phases, in tenths of a second
+abbrev pub trail_green : Plan → ℕ → ℕ
+trail_green plan o = 10 * plan.value OverlapTrailGreen o
+
+-- how long its own yellow lasts after that, in tenths of a second; K29: 0, or at least 30
+abbrev pub trail_yellow : Plan → ℕ → ℕ
+trail_yellow plan o = plan.value OverlapTrailYellow o
+
+-- and then its own red clearance, in tenths of a second; 0 for no red clearance
+abbrev pub trail_red : Plan → ℕ → ℕ
+trail_red plan o = plan.value OverlapTrailRed o
+
+-- the overlap has intervals of its own; of all others heads are functions of phases
+abbrev pub is_timed : Plan → ℕ → Bool
+is_timed plan o = is_arrow plan o || trails plan o
 
 -- patterns
 

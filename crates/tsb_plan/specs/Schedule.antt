@@ -5,7 +5,7 @@ use Rattle.std.specs.Prelude.{ℕ, ◌+◌, ◌-◌, ◌*◌, ◌==◌, nat_lt, 
 use Rattle.std.specs.Int.{bit_at}
 use Rattle.std.specs.List.{list_any}
 use Rattle.tsb_plan.specs.Plan.{Plan}
-use Rattle.tsb_plan.specs.declared.object.Object.TheVariants.{TimeBaseScheduleMonth, TimeBaseScheduleDay, TimeBaseScheduleDate, TimeBaseScheduleDayPlan, DayPlanHour, DayPlanMinute, DayPlanActionNumber, TimebaseAscPattern}
+use Rattle.tsb_plan.specs.declared.object.Object.TheVariants.{TimeBaseScheduleMonth, TimeBaseScheduleDay, TimeBaseScheduleDate, TimeBaseScheduleDayPlan, DayPlanHour, DayPlanMinute, DayPlanActionNumber, TimebaseAscPattern, ActionArrowOmit}
 use Rattle.tsb_types.specs.Lists.{run_from}
 
 -- how many entries there are (profile)
@@ -82,3 +82,7 @@ pattern_for n = if n == free_number then 0 else n
 -- the pattern that an action selects; 0 for free operation, as it is with no action, 0
 abbrev pub selected_by : Plan → ℕ → ℕ
 selected_by plan a = if a == 0 then 0 else pattern_for (asked_by plan a)
+
+-- the list of arrows that an action omits; none with no action, 0
+abbrev pub omitted_by : Plan → ℕ → ℕ
+omitted_by plan a = if a == 0 then 0 else plan.value ActionArrowOmit a

@@ -1,8 +1,8 @@
 -- What holds of the versions of plan texts and of the names in them, in words that do not retrace how an index is
 -- translated or a name is found. Each law here is the contract of a function in src/version_laws.rt.
-use Rattle.std.specs.Prelude.{◌≡◌, ℕ, ◌+◌, ◌-◌, ◌*◌, ◌≤◌, true}
+use Rattle.std.specs.Prelude.{◌≡◌, ◌≢◌, ℕ, ◌+◌, ◌-◌, ◌*◌, ◌≤◌, true}
 use Rattle.tsb_plan.specs.declared.object.Object.{Object}
-use Rattle.tsb_plan.specs.declared.object.Object.TheVariants.{SequenceData}
+use Rattle.tsb_plan.specs.declared.object.Object.TheVariants.{SequenceData, OverlapType}
 use Rattle.tsb_plan.specs.declared.version.Version.{Version}
 use Rattle.tsb_plan.specs.declared.version.TheConstants.Version.{NEWEST}
 use Rattle.tsb_plan.specs.declared.version.Version.TheVariants.{One, Two}
@@ -43,19 +43,25 @@ KeepPlaces = (s r k : ℕ) → 1 ≤ s → s ≤ 4 → 1 ≤ r → r ≤ 2 → 1
 pub record StaysAsIn (v w : Version) (o : Object) : Type 0 where
   pub there : has_object w o ≡ true
   pub indices : indices_in v o ≤ indices_in w o
-  pub values : greatest_in w o ≡ greatest_in v o
+  pub values : greatest_in v o ≤ greatest_in w o
   pub at : (i : ℕ) → translated w o i ≡ translated v o i
 
 -- version 3 has what version 2 has, as it has it
 abbrev pub KeepVersion2 : Type 0
 KeepVersion2 = (o : Object) → has_object Two o ≡ true → StaysAsIn Two NEWEST o
 
+-- the two give each object the same values, but that overlaps are of no type 2 in version 2
+pub record DifferInTypes : Type 0 where
+  pub others : (o : Object) → o ≢ OverlapType → greatest_in NEWEST o ≡ greatest_in Two o
+  pub two : greatest_in Two OverlapType ≡ 1
+  pub newest : greatest_in NEWEST OverlapType ≡ 2
+
 -- the two have the same indices, except that version 2 has 16 and 8 detectors, 4 overlaps and 4 preempts
 pub record GoByCounts (o : Object) : Type 0 where
   pub two : indices_in Two o ≡ indices_by narrow_counts o
   pub newest : indices_in NEWEST o ≡ indices_by all_counts o
 
--- versions 2 and 3 differ in the counts of detectors, overlaps and preempts alone
+-- versions 2 and 3 have the same indices, except for the counts of detectors, overlaps and preempts
 abbrev pub DifferInCounts : Type 0
 DifferInCounts = (o : Object) → GoByCounts o
 

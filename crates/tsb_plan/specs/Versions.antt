@@ -2,7 +2,7 @@
 -- what a text names. The last version is the table of objects; this says how those before it differ.
 use Rattle.std.specs.Prelude.{ℕ, ◌+◌, ◌-◌, ◌*◌, ◌/◌, ◌%◌, Bool, true, false, ◌&&◌, nat_le, if◌then◌else◌, Option, Some, None}
 use Rattle.tsb_plan.specs.declared.object.Object.{Object}
-use Rattle.tsb_plan.specs.declared.object.Object.TheVariants.{PhaseCarsBeforeReduction, VehicleDetectorCallPhase, VehicleDetectorFailTime, PedestrianDetectorCallPhase, OverlapIncludedPhases, SplitTime, SplitMode, SplitCoordPhase, SequenceData, PreemptDelay, PreemptExitPhase, OverlapType, OverlapModifierPhases, OverlapAcrossRings, PreemptChoosesAnew}
+use Rattle.tsb_plan.specs.declared.object.Object.TheVariants.{PhaseCarsBeforeReduction, VehicleDetectorCallPhase, VehicleDetectorFailTime, PedestrianDetectorCallPhase, OverlapIncludedPhases, SplitTime, SplitMode, SplitCoordPhase, SequenceData, PreemptDelay, PreemptExitPhase, OverlapType, OverlapModifierPhases, OverlapAcrossRings, PreemptChoosesAnew, OverlapArrowDelay, OverlapArrowPedestrian, OverlapTrailGreen, OverlapTrailYellow, OverlapTrailRed}
 use Rattle.tsb_plan.specs.declared.object.Range.{Range}
 use Rattle.tsb_plan.specs.declared.version.Version.{Version}
 use Rattle.tsb_plan.specs.declared.version.Version.TheVariants.{One, Two, Three}
@@ -65,6 +65,11 @@ is_by_overlap OverlapIncludedPhases = true
 is_by_overlap OverlapType = true
 is_by_overlap OverlapModifierPhases = true
 is_by_overlap OverlapAcrossRings = true
+is_by_overlap OverlapArrowDelay = true
+is_by_overlap OverlapArrowPedestrian = true
+is_by_overlap OverlapTrailGreen = true
+is_by_overlap OverlapTrailYellow = true
+is_by_overlap OverlapTrailRed = true
 is_by_overlap o = false
 
 -- its index is a preempt
@@ -79,10 +84,15 @@ indices_by counts o =
     if is_by_detector o then counts.vehicle_detectors
     else (if is_by_overlap o then counts.overlaps else (if is_by_preempt o then counts.preempts else (row o).range.indices))
 
+-- the greatest value that version 2 gives it: an overlap is of no type 2, and all else has that of a plan
+abbrev pub greatest_of_two : Object → ℕ
+greatest_of_two OverlapType = 1
+greatest_of_two o = (row o).range.greatest
+
 -- the object's range in the version; for one that the version has not, its range in a plan
 abbrev range_of : Version → Object → Range
 range_of One o = or_else (row o).since (row o).range
-range_of Two o = record { indices = indices_by narrow_counts o; greatest = (row o).range.greatest }
+range_of Two o = record { indices = indices_by narrow_counts o; greatest = greatest_of_two o }
 range_of Three o = (row o).range
 
 -- how many indices the object has, from 1 on

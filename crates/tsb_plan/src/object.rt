@@ -132,7 +132,8 @@ pub enum Object {
     PhaseDynamicMaxLimit,
     /// `phaseDynamicMaxStep`: phase, tenths of a second (profile), 0 for no dynamic maximum; 0 to 255.
     PhaseDynamicMaxStep,
-    /// `overlapType`: overlap, 0 normal, 1 minusGreenYellow (profile); 0 to 1.
+    /// `overlapType`: overlap, 0 normal, 1 minusGreenYellow, 2 flashing yellow arrow (profile); 0 to 2, and before
+    /// version 3 0 to 1.
     OverlapType,
     /// `overlapModifierPhases`: overlap, list of phases; 0 to 65,535.
     OverlapModifierPhases,
@@ -174,6 +175,23 @@ pub enum Object {
     DayPlanActionNumber,
     /// `timebaseAscPattern`: action, pattern, 254 for free operation, 0 for none; 0 to 254.
     TimebaseAscPattern,
+    /// `overlapArrowDelay`: overlap, tenths of a second (profile); 0 to 255.
+    OverlapArrowDelay,
+    /// `overlapArrowPedestrian`: overlap, yes or no, whether crosswalks of included phases keep an arrow from flashing
+    /// (profile); 0 to 1.
+    OverlapArrowPedestrian,
+    /// `overlapTrailGreen`: overlap, seconds, 0 for an overlap that does not trail; 0 to 255.
+    OverlapTrailGreen,
+    /// `overlapTrailYellow`: overlap, tenths of a second; 0 to 255.
+    OverlapTrailYellow,
+    /// `overlapTrailRed`: overlap, tenths of a second; 0 to 255.
+    OverlapTrailRed,
+    /// `actionArrowOmit`: action, list of overlaps whose arrows do not flash (profile); 0 to 65,535.
+    ActionArrowOmit,
+    /// `channelControlSource`: channel of the monitor, phase or overlap, 0 for none; 0 to 16.
+    ChannelControlSource,
+    /// `channelControlType`: channel of the monitor, 2 vehicles of a phase, 3 pedestrians of a phase, 4 overlap; 0 to 4.
+    ChannelControlType,
 }
 
 /// THE TABLE OF OBJECTS, each row as the macro that is named takes it: the object, its name in plan texts,
@@ -244,7 +262,7 @@ macro_rules! table {
             UnitMax2                    "unitMax2"                     1585 [1 1]       [1 1]       free
             PhaseDynamicMaxLimit        "phaseDynamicMaxLimit"         1586 [16 255]    [since 2]   free
             PhaseDynamicMaxStep         "phaseDynamicMaxStep"          1602 [16 255]    [since 2]   free
-            OverlapType                 "overlapType"                  1618 [16 1]      [since 2]   structural
+            OverlapType                 "overlapType"                  1618 [16 2]      [since 2]   structural
             OverlapModifierPhases       "overlapModifierPhases"        1634 [16 65535]  [since 2]   structural
             CoordForceMode              "coordForceMode"               1650 [1 2]       [since 2]   free
             CoordMaximumMode            "coordMaximumMode"             1651 [1 2]       [since 2]   free
@@ -264,6 +282,14 @@ macro_rules! table {
             DayPlanMinute               "dayPlanMinute"                  2143 [256 59] [since 3]   free
             DayPlanActionNumber         "dayPlanActionNumber"            2399 [256 32] [since 3]   free
             TimebaseAscPattern          "timebaseAscPattern"             2655 [32 254] [since 3]   free
+            OverlapArrowDelay           "overlapArrowDelay"              2687 [16 255] [since 3]   free
+            OverlapArrowPedestrian      "overlapArrowPedestrian"         2703 [16 1] [since 3]   free
+            OverlapTrailGreen           "overlapTrailGreen"              2719 [16 255] [since 3]   structural
+            OverlapTrailYellow          "overlapTrailYellow"             2735 [16 255] [since 3]   free
+            OverlapTrailRed             "overlapTrailRed"                2751 [16 255] [since 3]   free
+            ActionArrowOmit             "actionArrowOmit"                2767 [32 65535] [since 3]   free
+            ChannelControlSource        "channelControlSource"           2799 [16 16] [since 3]   free
+            ChannelControlType          "channelControlType"             2815 [16 4] [since 3]   free
         }
     };
 }

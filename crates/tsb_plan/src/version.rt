@@ -1,7 +1,7 @@
 //! The versions of plan texts: which objects each has, and how an index in one is found in a plan.
 ghost use Rattle.std.specs.Prelude.{◌≡◌, true};
 ghost use Rattle.tsb_plan.specs.Plan.{narrow_counts};
-ghost use Rattle.tsb_plan.specs.Versions.{number_of, indices_by, includes, has_object, indices_in, greatest_in, range_in, has_index_in, is_in_rows, translated};
+ghost use Rattle.tsb_plan.specs.Versions.{number_of, indices_by, greatest_of_two, includes, has_object, indices_in, greatest_in, range_in, has_index_in, is_in_rows, translated};
 
 use crate::object::{NARROW_RANGES, Object, Range};
 
@@ -12,8 +12,8 @@ pub enum Version {
     /// than in a plan, and those after `unitMax2` in the table are absent.
     One,
     /// Version 2: it knows 16 phases and 4 sides, and has the objects up to `coordCorrectionLimit` in the table, with the
-    /// values that a plan has. It knows no more vehicle detectors, pedestrian detectors, overlaps and preempts than version
-    /// 1: 16, 8, 4 and 4.
+    /// values that a plan has; only `overlapType` has but 0 and 1. It knows no more vehicle detectors, pedestrian
+    /// detectors, overlaps and preempts than version 1: 16, 8, 4 and 4.
     Two,
     /// Version 3: it has all objects as a plan has them, those of version 2 and the ones that came later.
     Three,
@@ -83,7 +83,8 @@ impl Version {
     {
         match self {
             Version::One => NARROW_RANGES[object as usize].greatest,
-            Version::Two | Version::Three => object.greatest(),
+            Version::Two => greatest_of_two(object),
+            Version::Three => object.greatest(),
         }
     }
 }
@@ -133,6 +134,11 @@ fn narrow_indices(object: Object) -> u32
         | Object::OverlapType
         | Object::OverlapModifierPhases
         | Object::OverlapAcrossRings
+        | Object::OverlapArrowDelay
+        | Object::OverlapArrowPedestrian
+        | Object::OverlapTrailGreen
+        | Object::OverlapTrailYellow
+        | Object::OverlapTrailRed
         | Object::PreemptDelay
         | Object::PreemptMinimumDuration
         | Object::PreemptMaximumPresence
@@ -145,5 +151,15 @@ fn narrow_indices(object: Object) -> u32
         | Object::PreemptExitPhase
         | Object::PreemptChoosesAnew => 4,
         _ => object.indices(),
+    }
+}
+
+/// The greatest value of the object in version 2, where it has the object: overlaps are of no type 2 there.
+fn greatest_of_two(object: Object) -> u32
+    ensures { result ≡ greatest_of_two object }
+{
+    match object {
+        Object::OverlapType => 1,
+        _ => object.greatest(),
     }
 }

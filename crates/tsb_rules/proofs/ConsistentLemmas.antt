@@ -1,19 +1,20 @@
--- Each rule's test is passed by a plan that breaks no rule, and what follows of its phases, sequences, preempts and
--- patterns.
+-- Each rule's test is passed by a plan that breaks no rule, and what follows of its phases, sequences, preempts, patterns
+-- and overlaps.
 use Rattle.std.proofs.Common.{◌≡◌, ◌≢◌, if◌then◌else◌, ℕ, ◌+◌, ◌<◌, ◌≤◌, ◌==◌, nat_le, nat_lt, Bool, true, false, not, ◌&&◌, ◌||◌, List, Option, Some, None, refl, arith, sym, ◌∙◌, ap, inl, inr}
 use Rattle.std.specs.List.{list_all}
 use Rattle.std.proofs.lemmas.Bool.{and_parts, cases_eq}
 use Rattle.std.proofs.lemmas.Bool.Decides.{nat_tests}
-use Rattle.tsb_plan.specs.declared.object.Object.TheVariants.{PhaseConcurrency, PreemptTrackPhase, PreemptDwellPhase, PreemptExitPhase, PatternSequenceNumber}
-use Rattle.tsb_rules.specs.Consistent.{IsPhase, IsPlaced, GoTogether, IsInUse, ListsRing, ListsRings, AreCompatible, IsPreemptSound, IsWhole, EndTogether, AreCoordinated}
-use Rattle.tsb_types.specs.Lists.{among}
-use Rattle.tsb_plan.specs.Parts.{unless_zero, is_used, cycle, offset, permissive_time, leads_and_lags, split_of, sequence_of, is_omitted, is_coordinated}
+use Rattle.tsb_plan.specs.declared.object.Object.TheVariants.{OverlapModifierPhases, OverlapTrailGreen, OverlapType, PhaseConcurrency, PreemptTrackPhase, PreemptDwellPhase, PreemptExitPhase, PatternSequenceNumber}
+use Rattle.tsb_rules.specs.Consistent.{IsPhase, IsPlaced, GoTogether, IsInUse, ListsRing, ListsRings, AreCompatible, IsPreemptSound, IsWhole, EndTogether, AreCoordinated, IsArrowSound, IsTrailSound}
+use Rattle.tsb_types.specs.Lists.{among, first}
+use Rattle.tsb_plan.specs.Parts.{unless_zero, is_used, cycle, offset, permissive_time, leads_and_lags, split_of, sequence_of, is_omitted, is_coordinated, is_included, is_modifier, includes_none, trail_yellow}
 use Rattle.tsb_rules.specs.PatternRules.{some_and, names_split, is_whole, patterns_are_whole, splits_hold_phases, splits_fill_cycles, coordinated_phases_agree, coordinated_agree, coordinates, agrees_with_all, ends_with, has_one_in_each_ring, has_coordinated, may_coordinate, has_phases, coordinated_count, permissive_times_end, split_end, each_pattern}
 use Rattle.tsb_plan.specs.Plan.{Plan, phases, is_enabled, ring_of, side_of, is_concurrent, sequence}
-use Rattle.tsb_rules.specs.Rules.{or_rule, some_enabled, is_placed, are_placed, unused_lists_are_empty, may_be_concurrent, names_across_rings, lists_name_across_rings, is_named_back, concurrency_is_symmetric, included_phases_are_enabled, names_concurrent, goes_with_all, has_concurrent_lists, preempts_are_concurrent, dwells_or_is_empty, preempts_dwell, modifiers_are_right, limits_reach_minimums, first_broken, broken_by_rings, broken_by_phases, broken_by_parts, broken_by_extensions, broken_by_schedule}
+use Rattle.tsb_rules.specs.Rules.{or_rule, some_enabled, is_placed, are_placed, unused_lists_are_empty, may_be_concurrent, names_across_rings, lists_name_across_rings, is_named_back, concurrency_is_symmetric, included_phases_are_enabled, names_concurrent, goes_with_all, has_concurrent_lists, preempts_are_concurrent, dwells_or_is_empty, preempts_dwell, modifiers_are_right, limits_reach_minimums, first_broken, broken_by_rings, broken_by_phases, broken_by_parts, broken_by_extensions, broken_by_schedule, broken_by_overlaps, arrows_are_right, trails_are_right, points_rightly, trails_rightly, turns_alone, only_passes, names_enabled, modifies_rightly}
 use Rattle.tsb_rules.specs.declared.rules.Rule.{Rule}
 use Rattle.tsb_rules.specs.SequenceRules.{each_phase, is_ordered, sequence_is_ordered, is_blank, lists_only, lists_each, lists_once, rises, first_sequence_is_ordered, other_sequences_are_ordered}
 use Rattle.tsb_types.specs.Sets.{names}
+use Rattle.tsb_types.proofs.FirstLemmas.{first-passes, first-within}
 use Rattle.tsb_types.proofs.SetLemmas.{names-zero}
 use Rattle.tsb_rules.proofs.RuleLemmas.{under, unless-met, or_rule-none, at-run_from, Passes, some-run_from, at-among}
 
@@ -27,6 +28,7 @@ pub record MeetsRings (plan : Plan) : Type 0 where
   pub k7 : other_sequences_are_ordered plan ≡ true
 
 pub record MeetsParts (plan : Plan) : Type 0 where
+  pub k14 : included_phases_are_enabled plan ≡ true
   pub k15 : preempts_are_concurrent plan ≡ true
   pub k16 : preempts_dwell plan ≡ true
   pub k17 : patterns_are_whole plan ≡ true
@@ -35,23 +37,43 @@ pub record MeetsParts (plan : Plan) : Type 0 where
   pub k20 : coordinated_phases_agree plan ≡ true
 
 pub record MeetsExtensions (plan : Plan) : Type 0 where
+  pub k21 : modifiers_are_right plan ≡ true
   pub k23 : permissive_times_end plan ≡ true
 
-met-rings : (plan : Plan) → first_broken plan ≡ None → broken_by_rings plan ≡ None
-unfolding first_broken
-met-rings plan none = (or_rule-none (broken_by_rings plan) (or_rule (broken_by_phases plan) (or_rule (broken_by_parts plan) (or_rule (broken_by_extensions plan) (broken_by_schedule plan)))) none).0
+pub record MeetsOverlaps (plan : Plan) : Type 0 where
+  pub k28 : arrows_are_right plan ≡ true
+  pub k29 : trails_are_right plan ≡ true
 
--- of the parts and the extensions
-met-late : (plan : Plan) → first_broken plan ≡ None → (broken_by_parts plan ≡ None) × (broken_by_extensions plan ≡ None)
+-- no group of rules is broken
+pub record BreaksNone (plan : Plan) : Type 0 where
+  pub rings : broken_by_rings plan ≡ None
+  pub phases : broken_by_phases plan ≡ None
+  pub parts : broken_by_parts plan ≡ None
+  pub extensions : broken_by_extensions plan ≡ None
+  pub schedule : broken_by_schedule plan ≡ None
+  pub overlaps : broken_by_overlaps plan ≡ None
+
+pub breaks_none : (plan : Plan) → first_broken plan ≡ None → BreaksNone plan
 unfolding first_broken
-met-late plan none =
-    let last : Option Rule = or_rule (broken_by_extensions plan) (broken_by_schedule plan) in
-    let behind : or_rule (broken_by_phases plan) (or_rule (broken_by_parts plan) last) ≡ None =
-    (or_rule-none (broken_by_rings plan) (or_rule (broken_by_phases plan) (or_rule (broken_by_parts plan) last)) none).1 in
-    let late : or_rule (broken_by_parts plan) last ≡ None =
-    (or_rule-none (broken_by_phases plan) (or_rule (broken_by_parts plan) last) behind).1 in
-    let both : (broken_by_parts plan ≡ None) × (last ≡ None) = or_rule-none (broken_by_parts plan) last late in
-    (both.0, (or_rule-none (broken_by_extensions plan) (broken_by_schedule plan) both.1).0)
+breaks_none plan none =
+    let from_24 : Option Rule = or_rule (broken_by_schedule plan) (broken_by_overlaps plan) in
+    let from_21 : Option Rule = or_rule (broken_by_extensions plan) from_24 in
+    let from_14 : Option Rule = or_rule (broken_by_parts plan) from_21 in
+    let from_8 : Option Rule = or_rule (broken_by_phases plan) from_14 in
+    let rings : (broken_by_rings plan ≡ None) × (from_8 ≡ None) = or_rule-none (broken_by_rings plan) from_8 none in
+    let phases : (broken_by_phases plan ≡ None) × (from_14 ≡ None) = or_rule-none (broken_by_phases plan) from_14 rings.1 in
+    let parts : (broken_by_parts plan ≡ None) × (from_21 ≡ None) = or_rule-none (broken_by_parts plan) from_21 phases.1 in
+    let extensions : (broken_by_extensions plan ≡ None) × (from_24 ≡ None) = or_rule-none (broken_by_extensions plan) from_24 parts.1 in
+    let schedule : (broken_by_schedule plan ≡ None) × (broken_by_overlaps plan ≡ None) =
+    or_rule-none (broken_by_schedule plan) (broken_by_overlaps plan) extensions.1 in
+    record {
+      rings = rings.0;
+      phases = phases.0;
+      parts = parts.0;
+      extensions = extensions.0;
+      schedule = schedule.0;
+      overlaps = schedule.1;
+    }
 
 rings : (plan : Plan) → broken_by_rings plan ≡ None → MeetsRings plan
 unfolding broken_by_rings
@@ -75,7 +97,7 @@ parts plan none =
     let k18 = unless-met (splits_hold_phases plan) _ _ k17.1 in
     let k19 = unless-met (splits_fill_cycles plan) _ _ k18.1 in
     let k20 = unless-met (coordinated_phases_agree plan) _ _ k19.1 in
-    record { k15 = k15.0; k16 = k16.0; k17 = k17.0; k18 = k18.0; k19 = k19.0; k20 = k20.0 }
+    record { k14 = k14.0; k15 = k15.0; k16 = k16.0; k17 = k17.0; k18 = k18.0; k19 = k19.0; k20 = k20.0 }
 
 extensions : (plan : Plan) → broken_by_extensions plan ≡ None → MeetsExtensions plan
 unfolding broken_by_extensions
@@ -83,16 +105,26 @@ extensions plan none =
     let k21 = unless-met (modifiers_are_right plan) _ _ none in
     let k22 = unless-met (limits_reach_minimums plan) _ _ k21.1 in
     let k23 = unless-met (permissive_times_end plan) _ _ k22.1 in
-    record { k23 = k23.0 }
+    record { k21 = k21.0; k23 = k23.0 }
+
+overlaps : (plan : Plan) → broken_by_overlaps plan ≡ None → MeetsOverlaps plan
+unfolding broken_by_overlaps
+overlaps plan none =
+    let k28 = unless-met (arrows_are_right plan) _ _ none in
+    let k29 = unless-met (trails_are_right plan) _ _ k28.1 in
+    record { k28 = k28.0; k29 = k29.0 }
 
 pub meets_rings : (plan : Plan) → first_broken plan ≡ None → MeetsRings plan
-meets_rings plan none = rings plan (met-rings plan none)
+meets_rings plan none = rings plan (breaks_none plan none).rings
 
 pub meets_parts : (plan : Plan) → first_broken plan ≡ None → MeetsParts plan
-meets_parts plan none = parts plan (met-late plan none).0
+meets_parts plan none = parts plan (breaks_none plan none).parts
 
 pub meets_extensions : (plan : Plan) → first_broken plan ≡ None → MeetsExtensions plan
-meets_extensions plan none = extensions plan (met-late plan none).1
+meets_extensions plan none = extensions plan (breaks_none plan none).extensions
+
+pub meets_overlaps : (plan : Plan) → first_broken plan ≡ None → MeetsOverlaps plan
+meets_overlaps plan none = overlaps plan (breaks_none plan none).overlaps
 
 -- of a test that all phases pass, and of one that each enabled phase passes
 at-phase : (plan : Plan) (test : ℕ → Bool) (p : ℕ) → list_all test (phases plan) ≡ true → IsPhase plan p → test p ≡ true
@@ -357,3 +389,66 @@ permissive plan none n from to used =
     let test : nat_lt (permissive_time plan n) (cycle plan n) ≡ true =
     at-pattern plan (λ m. nat_lt (permissive_time plan m) (cycle plan m)) n (meets_extensions plan none).k23 from to used in
     grind (arith, nat_tests, test)
+
+-- ## Arrows and overlaps that trail
+
+-- of an arrow, the rest of its rule
+is-right : (n : ℕ) (b : Bool) → (not (n == 2) || b) ≡ true → n ≡ 2 → b ≡ true
+is-right n b e two = under (n == 2) b e (grind (arith, nat_tests, two))
+
+-- the turn that its rule finds
+turn-of : (plan : Plan) (o : ℕ) (f : Option ℕ) → turns_alone plan o f ≡ true → (t : ℕ) × ((f ≡ Some t) × (turns_alone plan o (Some t) ≡ true))
+turn-of plan o None e = cc
+turn-of plan o (Some t) e = (t, (refl, e))
+
+-- a phase that a list names, of those that are enabled
+named-enabled : (plan : Plan) (list p : ℕ) → names_enabled plan list ≡ true → IsPhase plan p → names list p ≡ true → is_enabled plan p ≡ true
+named-enabled plan list p all is named = under (names list p) _ (at-phase plan (λ q. not (names list q) || is_enabled plan q) p all is) named
+
+pub arrow_sound : (plan : Plan) → first_broken plan ≡ None → (o : ℕ) → 1 ≤ o → o ≤ plan.counts.overlaps → plan.value OverlapType o ≡ 2 → IsArrowSound plan o
+arrow_sound plan none o from to two =
+    let right : points_rightly plan o ≡ true =
+    at-run_from (points_rightly plan) 1 plan.counts.overlaps o (meets_overlaps plan none).k28 from (omega (arith, to)) in
+    let parts = and_parts (not (includes_none plan o)) (turns_alone plan o (first (is_modifier plan o) (phases plan))) (is-right (plan.value OverlapType o) _ right two) in
+    let found = turn-of plan o (first (is_modifier plan o) (phases plan)) parts.1 in
+    let alone = and_parts (only_passes plan (is_modifier plan o) found.0) _ found.1.1 in
+    let inside : (1 ≤ found.0) × (found.0 < 1 + plan.phase_count) = first-within (is_modifier plan o) 1 plan.phase_count found.0 found.1.0 in
+    let is : IsPhase plan found.0 = record { from_one = inside.0; within = omega (arith, inside.1) } in
+    let modifies : modifies_rightly plan o ≡ true =
+    at-run_from (modifies_rightly plan) 1 plan.counts.overlaps o (meets_extensions plan none).k21 from (omega (arith, to)) in
+    let named : names_enabled plan (plan.value OverlapModifierPhases o) ≡ true = (and_parts (names_enabled plan (plan.value OverlapModifierPhases o)) _ modifies).0 in
+    let opposes : (p : ℕ) → IsPhase plan p → is_included plan o p ≡ true → (not (p == found.0) && not (is_concurrent plan found.0 p)) ≡ true =
+    λ p has on. under (is_included plan o p) _ (at-phase plan (λ q. not (is_included plan o q) || (not (q == found.0) && not (is_concurrent plan found.0 q))) p alone.1 has) on in
+    record {
+      turn = found.0;
+      is_phase = is;
+      is_first = found.1.0;
+      is_only = λ p has on.
+          let same : (p == found.0) ≡ true = under (is_modifier plan o p) _ (at-phase plan (λ q. not (is_modifier plan o q) || q == found.0) p alone.0 has) on in
+          grind (arith, nat_tests, same);
+      enabled = named-enabled plan (plan.value OverlapModifierPhases o) found.0 named is (first-passes (is_modifier plan o) (phases plan) found.0 found.1.0);
+      includes_some = is-off (includes_none plan o) parts.0;
+      apart = λ p has on same.
+          let other : (p == found.0) ≡ false = is-off (p == found.0) (and_parts (not (p == found.0)) _ (opposes p has on)).0 in
+          absurd (grind (arith, nat_tests, other, same));
+      opposed = λ p has on. is-off (is_concurrent plan found.0 p) (and_parts (not (p == found.0)) _ (opposes p has on)).1;
+    }
+
+pub trail_sound : (plan : Plan) → first_broken plan ≡ None → (o : ℕ) → 1 ≤ o → o ≤ plan.counts.overlaps → plan.value OverlapTrailGreen o ≢ 0 → IsTrailSound plan o
+trail_sound plan none o from to some =
+    let right : trails_rightly plan o ≡ true =
+    at-run_from (trails_rightly plan) 1 plan.counts.overlaps o (meets_overlaps plan none).k29 from (omega (arith, to)) in
+    let parts = and_parts (trail_yellow plan o == 0 || nat_le 30 (trail_yellow plan o)) _ right in
+    let lit : (not (trail_yellow plan o == 0) && plan.value OverlapType o == 0) ≡ true = has-some (plan.value OverlapTrailGreen o) _ parts.1 some in
+    let both = and_parts (not (trail_yellow plan o == 0)) (plan.value OverlapType o == 0) lit in
+    record {
+      normal = grind (arith, nat_tests, both.1);
+      yellow = is-long (trail_yellow plan o) parts.0 both.0;
+    }
+  where
+    has-some : (n : ℕ) (b : Bool) → (n == 0 || b) ≡ true → n ≢ 0 → b ≡ true
+    has-some n true e some = refl
+    has-some n false e some = absurd (some (grind (arith, nat_tests, e)))
+
+    is-long : (y : ℕ) → (y == 0 || nat_le 30 y) ≡ true → not (y == 0) ≡ true → 30 ≤ y
+    is-long y e some = grind (arith, nat_tests, e, some)

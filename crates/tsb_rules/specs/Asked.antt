@@ -10,9 +10,9 @@ use Rattle.tsb_rules.specs.declared.rules.asked.OfPhase.TheVariants.{EmptyUnused
 use Rattle.tsb_rules.specs.declared.rules.asked.Sought.{Sought}
 use Rattle.tsb_rules.specs.declared.rules.asked.Sought.TheVariants.{Enabled, CoordinatedIn, OnSide}
 use Rattle.tsb_rules.specs.declared.rules.lists.OfNamed.{OfNamed}
-use Rattle.tsb_rules.specs.declared.rules.lists.OfNamed.TheVariants.{IsEnabled, IsAcross, NamesBack, GoesWith}
+use Rattle.tsb_rules.specs.declared.rules.lists.OfNamed.TheVariants.{IsEnabled, IsAcross, NamesBack, GoesWith, Is, Opposes}
 use Rattle.tsb_rules.specs.declared.rules.lists.OfOverlap.{OfOverlap}
-use Rattle.tsb_rules.specs.declared.rules.lists.OfOverlap.TheVariants.{IncludesEnabled, ModifiesRightly}
+use Rattle.tsb_rules.specs.declared.rules.lists.OfOverlap.TheVariants.{IncludesEnabled, ModifiesRightly, PointsRightly, TrailsRightly}
 use Rattle.tsb_rules.specs.declared.rules.lists.OfPreempt.{OfPreempt}
 use Rattle.tsb_rules.specs.declared.rules.lists.OfPreempt.TheVariants.{HasConcurrentLists, DwellsOrIsEmpty}
 use Rattle.tsb_rules.specs.declared.rules.patterns.OfPattern.{OfPattern}
@@ -22,7 +22,7 @@ use Rattle.tsb_rules.specs.declared.rules.sequences.OfListed.TheVariants.{IsOfRi
 use Rattle.tsb_plan.specs.Parts.{cycle, permissive_time, leads_and_lags, split_of, sequence_of, is_coordinated}
 use Rattle.tsb_plan.specs.Plan.{Plan, phases, is_enabled, has_pedestrian_recall, ring_of, side_of, is_concurrent, minimum_green, minimum_gap, passage, yellow_change, dynamic_maximum_limit}
 use Rattle.tsb_rules.specs.PatternRules.{some_and, is_whole, holds_phase, holds_phases, fills, is_on, coordinates, coordinated_agree}
-use Rattle.tsb_rules.specs.Rules.{is_placed, names_across_rings, is_named_back, may_be_concurrent, reaches_minimum, has_walk, goes_with_all, names_enabled, has_concurrent_lists, dwells_or_is_empty, modifies_rightly}
+use Rattle.tsb_rules.specs.Rules.{is_placed, names_across_rings, is_named_back, may_be_concurrent, reaches_minimum, has_walk, goes_with_all, names_enabled, has_concurrent_lists, dwells_or_is_empty, modifies_rightly, points_rightly, trails_rightly}
 use Rattle.tsb_types.specs.Sets.{names}
 
 -- of each enabled phase: K2, K4, K8 to K11, K22, and K18 of split table t
@@ -54,17 +54,21 @@ is_sought (OnSide r d) plan = is_on plan r d
 abbrev pub each_named : Plan → ℕ → (ℕ → Bool) → Bool
 each_named plan list test = list_all (λ q. not (names list q) || test q) (phases plan)
 
--- of each phase that a list names: K14 and K21, K4 and K5 in the list of p, and K15 beside p
+-- of each phase that a list names: K14 and K21, K4 and K5 in the list of p, K15 beside p, and K28 of the turn p
 abbrev pub named_meets : OfNamed → Plan → ℕ → Bool
 named_meets IsEnabled plan = is_enabled plan
 named_meets (IsAcross p) plan = may_be_concurrent plan p
 named_meets (NamesBack p) plan = λ q. is_concurrent plan q p
 named_meets (GoesWith p) plan = λ q. p == q || is_concurrent plan p q
+named_meets (Is p) plan = λ q. q == p
+named_meets (Opposes p) plan = λ q. not (q == p) && not (is_concurrent plan p q)
 
--- of each overlap: K14 and K21
+-- of each overlap: K14, K21, K28 and K29
 abbrev pub overlap_meets : OfOverlap → Plan → ℕ → Bool
 overlap_meets IncludesEnabled plan = λ o. names_enabled plan (plan.value OverlapIncludedPhases o)
 overlap_meets ModifiesRightly plan = modifies_rightly plan
+overlap_meets PointsRightly plan = points_rightly plan
+overlap_meets TrailsRightly plan = trails_rightly plan
 
 -- of each preempt: K15 and K16
 abbrev pub preempt_meets : OfPreempt → Plan → ℕ → Bool

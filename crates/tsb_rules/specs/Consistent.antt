@@ -1,11 +1,11 @@
 -- What every plan that meets the rules is like, in facts that the layers of the controller stand on. Each is the
 -- contract of a function in src/consistent.rt.
 use Rattle.std.specs.Prelude.{◌≡◌, ◌≢◌, ℕ, ◌<◌, ◌≤◌, Bool, true, false, List, Some, None}
-use Rattle.tsb_plan.specs.declared.object.Object.TheVariants.{PreemptTrackPhase, PreemptDwellPhase, PreemptExitPhase}
-use Rattle.tsb_types.specs.Lists.{among}
-use Rattle.tsb_plan.specs.Parts.{is_used, cycle, offset, permissive_time, leads_and_lags, split_of, sequence_of, is_omitted, is_coordinated, is_track_phase, is_dwell_phase, is_exit_phase}
+use Rattle.tsb_plan.specs.declared.object.Object.TheVariants.{OverlapTrailGreen, OverlapType, PreemptTrackPhase, PreemptDwellPhase, PreemptExitPhase}
+use Rattle.tsb_types.specs.Lists.{among, first}
+use Rattle.tsb_plan.specs.Parts.{is_used, cycle, offset, permissive_time, leads_and_lags, split_of, sequence_of, is_omitted, is_coordinated, is_track_phase, is_dwell_phase, is_exit_phase, is_included, is_modifier, includes_none, trail_yellow}
 use Rattle.tsb_rules.specs.PatternRules.{split_end, coordinated_count, has_phases}
-use Rattle.tsb_plan.specs.Plan.{Plan, is_enabled, ring_of, side_of, is_concurrent, sequence}
+use Rattle.tsb_plan.specs.Plan.{Plan, phases, is_enabled, ring_of, side_of, is_concurrent, sequence}
 use Rattle.tsb_rules.specs.Rules.{first_broken}
 use Rattle.tsb_rules.specs.SequenceRules.{lists_once, rises, zeros_last}
 
@@ -124,6 +124,31 @@ CoordinatedPhasesAgree plan = (n s t : ℕ) → IsInUse plan n s t → AreCoordi
 -- K23: the permissive time of each used one of the 16 patterns is below its cycle
 abbrev pub PermissiveTimesEnd : Plan → Type 0
 PermissiveTimesEnd plan = (n : ℕ) → 1 ≤ n → n ≤ 16 → is_used plan n ≡ true → permissive_time plan n < cycle plan n
+
+-- an arrow includes a phase, and has one modifier phase, its turn, which is enabled, not included, and concurrent with no
+-- phase that it includes
+pub record IsArrowSound (plan : Plan) (o : ℕ) : Type 0 where
+  pub turn : ℕ
+  pub is_phase : IsPhase plan turn
+  pub is_first : first (is_modifier plan o) (phases plan) ≡ Some turn
+  pub is_only : (p : ℕ) → IsPhase plan p → is_modifier plan o p ≡ true → p ≡ turn
+  pub enabled : is_enabled plan turn ≡ true
+  pub includes_some : includes_none plan o ≡ false
+  pub apart : (p : ℕ) → IsPhase plan p → is_included plan o p ≡ true → p ≢ turn
+  pub opposed : (p : ℕ) → IsPhase plan p → is_included plan o p ≡ true → is_concurrent plan turn p ≡ false
+
+-- K21 and K28: each arrow, an overlap of type 2, has a turn that goes with no phase that it includes
+abbrev pub ArrowsAreSound : Plan → Type 0
+ArrowsAreSound plan = (o : ℕ) → 1 ≤ o → o ≤ plan.counts.overlaps → plan.value OverlapType o ≡ 2 → IsArrowSound plan o
+
+-- an overlap that trails is normal, and has a trailing yellow of at least 3 s, in tenths of a second
+pub record IsTrailSound (plan : Plan) (o : ℕ) : Type 0 where
+  pub normal : plan.value OverlapType o ≡ 0
+  pub yellow : 30 ≤ trail_yellow plan o
+
+-- K29: each overlap with a trailing green is sound
+abbrev pub TrailsAreSound : Plan → Type 0
+TrailsAreSound plan = (o : ℕ) → 1 ≤ o → o ≤ plan.counts.overlaps → plan.value OverlapTrailGreen o ≢ 0 → IsTrailSound plan o
 
 -- a fact of each plan that breaks no rule
 abbrev pub OfConsistentPlans : (Plan → Type 0) → Type 0

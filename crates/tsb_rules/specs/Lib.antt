@@ -5,7 +5,7 @@ pub mod SequenceRules
 pub mod PatternRules
 -- rules K24 to K27: the schedule
 pub mod ScheduleRules
--- all other rules, and the first of K1 to K27 that a plan breaks
+-- all other rules, and the first of K1 to K29 that a plan breaks
 pub mod Rules
 -- what a check asks one by one of phases, overlaps, preempts and patterns
 pub mod Asked

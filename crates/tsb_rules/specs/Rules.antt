@@ -3,11 +3,11 @@
 use Rattle.std.specs.Prelude.{ℕ, ◌==◌, nat_le, Bool, true, false, not, ◌&&◌, ◌||◌, Option, Some, None, Result, Ok, Err}
 use Rattle.std.specs.List.{list_all, list_any}
 use Rattle.tsb_plan.specs.declared.object.Object.{Object}
-use Rattle.tsb_plan.specs.declared.object.Object.TheVariants.{PhaseConcurrency, PhaseWalk, PhaseMinimumGreen, PhaseMaximum1, PhaseMaximum2, OverlapIncludedPhases, OverlapModifierPhases, PreemptTrackPhase, PreemptDwellPhase, PreemptExitPhase}
+use Rattle.tsb_plan.specs.declared.object.Object.TheVariants.{PhaseConcurrency, PhaseWalk, PhaseMinimumGreen, PhaseMaximum1, PhaseMaximum2, OverlapIncludedPhases, OverlapModifierPhases, OverlapTrailGreen, OverlapType, PreemptTrackPhase, PreemptDwellPhase, PreemptExitPhase}
 use Rattle.tsb_rules.specs.declared.rules.Rule.{Rule}
-use Rattle.tsb_rules.specs.declared.rules.Rule.TheVariants.{K1, K2, K3, K4, K5, K6, K7, K8, K9, K10, K11, K12, K13, K14, K15, K16, K17, K18, K19, K20, K21, K22, K23, K24, K25, K26, K27}
-use Rattle.tsb_types.specs.Lists.{run_from}
-use Rattle.tsb_plan.specs.Parts.{call_phase, pedestrian_call_phase, is_minus_green_yellow}
+use Rattle.tsb_rules.specs.declared.rules.Rule.TheVariants.{K1, K2, K3, K4, K5, K6, K7, K8, K9, K10, K11, K12, K13, K14, K15, K16, K17, K18, K19, K20, K21, K22, K23, K24, K25, K26, K27, K28, K29}
+use Rattle.tsb_types.specs.Lists.{first, run_from}
+use Rattle.tsb_plan.specs.Parts.{call_phase, pedestrian_call_phase, is_included, is_modifier, includes_none, trail_yellow}
 use Rattle.tsb_rules.specs.PatternRules.{patterns_are_whole, splits_hold_phases, splits_fill_cycles, coordinated_phases_agree, permissive_times_end}
 use Rattle.tsb_rules.specs.ScheduleRules.{events_are_apart, day_plans_have_events, actions_are_defined, asked_patterns_are_used}
 use Rattle.tsb_plan.specs.Plan.{Plan, phases, is_enabled, has_pedestrian_recall, ring_of, side_of, is_concurrent, minimum_green, minimum_gap, passage, yellow_change, dynamic_maximum_limit}
@@ -134,14 +134,50 @@ dwells_or_is_empty plan n =
 abbrev pub preempts_dwell : Plan → Bool
 preempts_dwell plan = list_all (dwells_or_is_empty plan) (run_from 1 plan.counts.preempts)
 
--- the modifier phases of overlap o are enabled, and there are none where it is not minusGreenYellow
+-- the modifier phases of overlap o are enabled, and there are none where it is normal
 abbrev pub modifies_rightly : Plan → ℕ → Bool
 modifies_rightly plan o =
-    names_enabled plan (plan.value OverlapModifierPhases o) && (is_minus_green_yellow plan o || plan.value OverlapModifierPhases o == 0)
+    names_enabled plan (plan.value OverlapModifierPhases o)
+    && (not (plan.value OverlapType o == 0) || plan.value OverlapModifierPhases o == 0)
 
--- K21: the modifier phases of each overlap are enabled, and there are none where it is not minusGreenYellow
+-- K21: the modifier phases of each overlap are enabled, and there are none where it is normal
 abbrev pub modifiers_are_right : Plan → Bool
 modifiers_are_right plan = list_all (modifies_rightly plan) (run_from 1 plan.counts.overlaps)
+
+-- no phase of a plan passes a test but t
+abbrev pub only_passes : Plan → (ℕ → Bool) → ℕ → Bool
+only_passes plan test t = list_all (λ p. not (test p) || p == t) (phases plan)
+
+-- t, the first modifier phase of overlap o, is there and is the only one; the overlap does not include it, and it is
+-- concurrent with no phase that the overlap includes
+abbrev pub turns_alone : Plan → ℕ → Option ℕ → Bool
+turns_alone plan o None = false
+turns_alone plan o (Some t) =
+    only_passes plan (is_modifier plan o) t
+    && list_all (λ p. not (is_included plan o p) || (not (p == t) && not (is_concurrent plan t p))) (phases plan)
+
+-- overlap o, where it is of type 2, includes a phase, and has one modifier phase, which goes with none that it includes
+abbrev pub points_rightly : Plan → ℕ → Bool
+points_rightly plan o =
+    not (plan.value OverlapType o == 2)
+    || (not (includes_none plan o) && turns_alone plan o (first (is_modifier plan o) (phases plan)))
+
+-- K28: an overlap of type 2, an arrow, includes a phase, and has one modifier phase, which it does not include and which
+-- is concurrent with no phase that it includes
+abbrev pub arrows_are_right : Plan → Bool
+arrows_are_right plan = list_all (points_rightly plan) (run_from 1 plan.counts.overlaps)
+
+-- the trailing yellow of overlap o is 0 or at least 30 tenths of a second; where it has a trailing green the yellow is not
+-- 0, and its type is 0
+abbrev pub trails_rightly : Plan → ℕ → Bool
+trails_rightly plan o =
+    (trail_yellow plan o == 0 || nat_le 30 (trail_yellow plan o))
+    && (plan.value OverlapTrailGreen o == 0 || (not (trail_yellow plan o == 0) && plan.value OverlapType o == 0))
+
+-- K29: overlapTrailYellow of each overlap is 0 or at least 30 tenths of a second; one with overlapTrailGreen has a yellow
+-- that is not 0, and type 0
+abbrev pub trails_are_right : Plan → Bool
+trails_are_right plan = list_all (trails_rightly plan) (run_from 1 plan.counts.overlaps)
 
 -- K22: phaseDynamicMaxLimit of each phase is 0 or at least its phaseMinimumGreen
 abbrev pub limits_reach_minimums : Plan → Bool
@@ -204,6 +240,13 @@ broken_by_schedule plan =
     (unless (asked_patterns_are_used plan) K27
     None)))
 
+-- the first of K28 and K29, on arrows and overlaps that trail, which plan texts of version 3 alone can give
+unfoldable pub broken_by_overlaps : Plan → Option Rule
+broken_by_overlaps plan =
+    unless (arrows_are_right plan) K28
+    (unless (trails_are_right plan) K29
+    None)
+
 -- the first, or where there is none the second
 abbrev pub or_rule : Option Rule → Option Rule → Option Rule
 or_rule (Some r) next = Some r
@@ -216,7 +259,8 @@ first_broken plan =
     (or_rule (broken_by_phases plan)
     (or_rule (broken_by_parts plan)
     (or_rule (broken_by_extensions plan)
-    (broken_by_schedule plan))))
+    (or_rule (broken_by_schedule plan)
+    (broken_by_overlaps plan)))))
 
 -- what a check of a plan answers: that it is consistent, or the first rule that it breaks
 abbrev pub or_broken : Option Rule → Result (Unit {0}) Rule

@@ -1,6 +1,6 @@
 //! What every plan that meets the rules is like, each fact the contract of a function that does nothing.
 //! `Checked::plan` says that a checked plan is such a plan.
-ghost use Rattle.tsb_rules.specs.Consistent.{OfConsistentPlans, PhasesArePlaced, ConcurrentGoTogether, FirstSequenceListsRings, SequencesInUseListRings, PreemptsAreSound, PatternsAreWhole, CoordinatedPhasesAgree, PermissiveTimesEnd};
+ghost use Rattle.tsb_rules.specs.Consistent.{OfConsistentPlans, PhasesArePlaced, ConcurrentGoTogether, FirstSequenceListsRings, SequencesInUseListRings, PreemptsAreSound, PatternsAreWhole, CoordinatedPhasesAgree, PermissiveTimesEnd, ArrowsAreSound, TrailsAreSound};
 
 /// Concurrent phases are in different rings and on one side. Each enabled phase is in ring 1 or 2 and on one of the
 /// sides. Two concurrent phases are enabled, in different rings and on one side, and each names the other.
@@ -61,4 +61,26 @@ pub fn coordinated_phases_agree()
 /// Witness: `breaks_none` of Mistakes, the built-in plan of eight phases with another offset.
 pub fn permissive_times_end()
     ensures { OfConsistentPlans PermissiveTimesEnd }
+{}
+
+/// Each arrow has a turn that goes with no phase that it includes. An overlap of type 2 includes a phase, and has one
+/// modifier phase, which is enabled, not included, and concurrent with no included phase.
+///
+/// Needs: a plan that breaks no rule.
+/// Mistakes: a K28 that lets a turn be concurrent with an included phase, `with_turns_beside` (`would_pass_beside`,
+/// `turns_beside_2`); one that lets an arrow have two modifier phases, `with_many_turns` (`would_pass_two_turns`,
+/// `turns_with_3`).
+/// Witness: `arrow_breaks_none` of Mistakes, the built-in plan of eight phases with an arrow for the turn of phase 1.
+pub fn arrows_are_sound()
+    ensures { OfConsistentPlans ArrowsAreSound }
+{}
+
+/// An overlap that trails has a whole yellow. One with `overlapTrailGreen` is of type 0, and its `overlapTrailYellow` is
+/// at least 3 s.
+///
+/// Needs: a plan that breaks no rule.
+/// Mistake: a K29 that lets an overlap trail without a yellow, `with_no_yellow` (`would_pass_unlit`, `has_no_yellow`).
+/// Witness: `trail_breaks_none` of Mistakes, the built-in plan of eight phases with an overlap that trails.
+pub fn trails_are_sound()
+    ensures { OfConsistentPlans TrailsAreSound }
 {}

@@ -1,4 +1,4 @@
-//! The rules that a timing plan must meet, K1 to K27, and what a plan that meets them is known to be.
+//! The rules that a timing plan must meet, K1 to K29, and what a plan that meets them is known to be.
 //!
 //! The rules are the profile's own. Nothing here takes memory.
 #![tactic(auto)]

@@ -3,7 +3,7 @@
 
 ghost use Rattle.std.specs.Prelude.{◌≡◌, ◌+◌, ◌*◌, ◌≤◌, ◌==◌, ◌&&◌, ◌||◌, nat_le, if◌then◌else◌, Ok, Err};
 ghost use Rattle.tsb_plan.specs.PlanOf.{plan_of};
-ghost use Rattle.tsb_rules.specs.Rules.{broken_by_rings, broken_by_phases, broken_by_parts, broken_by_extensions, broken_by_schedule, first_broken, or_broken};
+ghost use Rattle.tsb_rules.specs.Rules.{broken_by_rings, broken_by_phases, broken_by_parts, broken_by_extensions, broken_by_schedule, broken_by_overlaps, first_broken, or_broken};
 
 mod asked;
 mod calls;
@@ -86,6 +86,12 @@ pub enum Rule {
     K26,
     /// A pattern that an action asks for is used.
     K27,
+    /// An overlap of type 2, an arrow, includes a phase, and has one modifier phase, which it does not include and which is
+    /// concurrent with no phase that it includes.
+    K28,
+    /// `overlapTrailYellow` is 0 or at least 30 tenths of a second, and not 0 where the overlap trails; an overlap that
+    /// trails has type 0.
+    K29,
 }
 
 /// Whether the plan meets the rules: an `Err` is the first one that it breaks, in the order of their
@@ -98,7 +104,8 @@ pub fn check(plan: &Plan) -> Result<(), Rule>
     check_phases(plan)?;
     check_parts(plan)?;
     check_extensions(plan)?;
-    check_schedule(plan)
+    check_schedule(plan)?;
+    check_overlaps(plan)
 }
 
 /// Rules K1 to K7, on rings, sides and sequences.
@@ -161,6 +168,15 @@ fn check_schedule(plan: &Plan) -> Result<(), Rule>
     require(schedules::day_plans_have_events(plan), Rule::K25)?;
     require(schedules::actions_are_defined(plan), Rule::K26)?;
     require(schedules::asked_patterns_are_used(plan), Rule::K27)
+}
+
+/// Rules K28 and K29, on arrows and on overlaps that trail, which plan texts of version 3 alone can give.
+#[tactic(auto, unfolding(tsb_plan::specs::PlanOf::plan_of, crate::specs::Rules::broken_by_overlaps))]
+fn check_overlaps(plan: &Plan) -> Result<(), Rule>
+    ensures { result ≡ or_broken (broken_by_overlaps (plan_of plan.now)) }
+{
+    require(each_overlap(plan, OfOverlap::PointsRightly), Rule::K28)?;
+    require(each_overlap(plan, OfOverlap::TrailsRightly), Rule::K29)
 }
 
 /// An `Err` with that rule, unless its test is passed.

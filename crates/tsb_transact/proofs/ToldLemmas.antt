@@ -10,7 +10,7 @@ use Rattle.tsb_plan.specs.Objects.{has_index, greatest}
 use Rattle.tsb_plan.specs.Parts.{unless_zero}
 use Rattle.tsb_plan.specs.PlanOf.{put_refusal}
 use Rattle.tsb_objects.specs.tsb_rules.declared.rules.Rule.{Rule}
-use Rattle.tsb_objects.specs.tsb_rules.declared.rules.Rule.TheVariants.{K1, K2, K3, K4, K5, K6, K7, K8, K9, K10, K11, K12, K13, K14, K15, K16, K17, K18, K19, K20, K21, K22, K23, K24, K25, K26, K27}
+use Rattle.tsb_objects.specs.tsb_rules.declared.rules.Rule.TheVariants.{K1, K2, K3, K4, K5, K6, K7, K8, K9, K10, K11, K12, K13, K14, K15, K16, K17, K18, K19, K20, K21, K22, K23, K24, K25, K26, K27, K28, K29}
 use Rattle.tsb_transact.specs.declared.TheConstants.{CELLS, MOST_EDITS}
 use Rattle.tsb_transact.specs.declared.desk_state.DeskState.{DeskState}
 use Rattle.tsb_transact.specs.declared.desk_state.DeskState.TheVariants.{Normal, Transaction, Verify, Done}
@@ -83,7 +83,7 @@ AreNumbered (r ∷ rs) n = (rule_cell (Some r) ≡ n) × AreNumbered rs (n + 1)
 numbered : AreNumbered rules 1
 unfolding AreNumbered
 numbered =
-    (refl, (refl, (refl, (refl, (refl, (refl, (refl, (refl, (refl, (refl, (refl, (refl, (refl, (refl, (refl, (refl, (refl, (refl, (refl, (refl, (refl, (refl, (refl, (refl, (refl, (refl, (refl, tt)))))))))))))))))))))))))))
+    (refl, (refl, (refl, (refl, (refl, (refl, (refl, (refl, (refl, (refl, (refl, (refl, (refl, (refl, (refl, (refl, (refl, (refl, (refl, (refl, (refl, (refl, (refl, (refl, (refl, (refl, (refl, (refl, (refl, tt)))))))))))))))))))))))))))))
 
 number-told : (rs : List Rule) (a n : ℕ) → AreNumbered rs (a + 1) → 1 ≤ n → n ≤ length rs → rule_cell (nth_rule rs n) ≡ a + n
 unfolding AreNumbered
@@ -95,7 +95,7 @@ number-told (r ∷ rs) a n told from to =
       | inr o ↦ rw (some, o.0) (number-told rs (a + 1) (n - 1) told.1 (omega (arith, from, o.1)) (omega (arith, to)) ∙ omega (arith, from))
     ]
 
-rule-told : (n : ℕ) → n ≤ 27 → rule_cell (nth_rule rules n) ≡ n
+rule-told : (n : ℕ) → n ≤ 29 → rule_cell (nth_rule rules n) ≡ n
 rule-told n within =
     elim (cases_lt 0 n) [
       | inl some ↦ number-told rules 0 n numbered some (omega (arith, within)) ∙ omega arith
@@ -197,12 +197,14 @@ rule-back K24 = refl
 rule-back K25 = refl
 rule-back K26 = refl
 rule-back K27 = refl
+rule-back K28 = refl
+rule-back K29 = refl
 
 rule-read : (r : Option Rule) → nth_rule rules (rule_cell r) ≡ r
 rule-read None = refl
 rule-read (Some r) = rule-back r
 
-rule-within : (r : Option Rule) → rule_cell r ≤ 27
+rule-within : (r : Option Rule) → rule_cell r ≤ 29
 rule-within None = omega arith
 rule-within (Some K1) = omega arith
 rule-within (Some K2) = omega arith
@@ -231,6 +233,8 @@ rule-within (Some K24) = omega arith
 rule-within (Some K25) = omega arith
 rule-within (Some K26) = omega arith
 rule-within (Some K27) = omega arith
+rule-within (Some K28) = omega arith
+rule-within (Some K29) = omega arith
 
 state-read : (s : DeskState) → state_of (state_cell s) ≡ s
 state-read Normal = refl

@@ -27,7 +27,7 @@ pub const DONE: u32 = 3;
 
 /// The rule of a number, 0 for none.
 pub fn rule_of(number: u32) -> Option<Rule>
-    requires { number ≤ 27 }
+    requires { number ≤ 29 }
     ensures { result ≡ nth_rule rules number }
 {
     match number {
@@ -58,15 +58,17 @@ pub fn rule_of(number: u32) -> Option<Rule>
         25 => Some(Rule::K25),
         26 => Some(Rule::K26),
         27 => Some(Rule::K27),
+        28 => Some(Rule::K28),
+        29 => Some(Rule::K29),
         _ => None,
     }
 }
 
-/// The number of a rule, 1 to 27.
+/// The number of a rule, 1 to 29.
 pub fn rule_number(rule: Rule) -> u32
     ensures cell { result ≡ rule_cell (Some rule) }
     ensures back { nth_rule rules result ≡ Some rule }
-    ensures within { result ≤ 27 }
+    ensures within { result ≤ 29 }
 {
     match rule {
         Rule::K1 => 1,
@@ -96,5 +98,7 @@ pub fn rule_number(rule: Rule) -> u32
         Rule::K25 => 25,
         Rule::K26 => 26,
         Rule::K27 => 27,
+        Rule::K28 => 28,
+        Rule::K29 => 29,
     }
 }

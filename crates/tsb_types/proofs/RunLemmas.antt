@@ -1,7 +1,7 @@
 -- Runs of numbers.
-use Rattle.std.proofs.Common.{zero, suc, ◌≡◌, ℕ, ◌+◌, ◌<◌, ◌==◌, List, [], ◌∷◌, length, get_or, map, refl, arith, ap, ◌∙◌, Bool, true, false, ◌≤◌, inl, inr, ◌-◌, sum_by, sym}
-use Rattle.std.specs.List.{list_all}
-use Rattle.std.proofs.lemmas.Bool.{cases_eq, eq-eqb, or_right}
+use Rattle.std.proofs.Common.{zero, suc, ◌≡◌, ℕ, ◌+◌, ◌<◌, ◌==◌, List, [], ◌∷◌, length, get_or, map, refl, arith, ap, ap₂, ◌∙◌, Bool, ◌||◌, true, false, ◌≤◌, inl, inr, ◌-◌, sum_by, sym, ◌++◌, flat_map}
+use Rattle.std.specs.List.{list_all, list_any}
+use Rattle.std.proofs.lemmas.Bool.{cases_eq, eq-eqb, or_left, or_right}
 use Rattle.std.proofs.lemmas.List.Sums.{sum_by-cons}
 use Rattle.tsb_types.specs.Lists.{run_from, among}
 
@@ -88,3 +88,33 @@ among-run p a (suc n) from below =
       | inl same ↦ (let here : (a == p) ≡ true = eq-eqb a p same in rw here refl)
       | inr apart ↦ (let later : among p (run_from (a + 1) n) ≡ true = among-run p (a + 1) n (omega arith) (omega arith) in or_right (a == p) _ later)
     ]
+
+-- a test that some number of a run passes, and one that none does
+pub any-at : (test : ℕ → Bool) (a n k : ℕ) → a ≤ k → k < a + n → test k ≡ true → list_any test (run_from a n) ≡ true
+unfolding run_from
+any-at test a zero k from below on = absurd (omega (arith, from, below))
+any-at test a (suc n) k from below on =
+    elim (cases_eq a k) [
+      | inl same ↦ or_left (test a) (list_any test (run_from (a + 1) n)) (ap test same ∙ on)
+      | inr other ↦ or_right (test a) (list_any test (run_from (a + 1) n)) (any-at test (a + 1) n k (omega (arith, from, other)) (omega (arith, below)) on)
+    ]
+
+pub any-never : (test : ℕ → Bool) (a n : ℕ) → ((k : ℕ) → a ≤ k → k < a + n → test k ≡ false) → list_any test (run_from a n) ≡ false
+unfolding run_from
+any-never test a zero never = refl
+any-never test a (suc n) never =
+    ap₂ (λ (x y : Bool). x || y) (never a (omega arith) (omega arith))
+    (any-never test (a + 1) n (λ k from below. never k (omega (arith, from)) (omega (arith, below))))
+
+-- a list of f of each number of a run begins with that of its first, and has nothing past its end
+pub flat-run_from : (f : ℕ → List ℕ) (k end : ℕ) → k < end → flat_map f (run_from k (end - k)) ≡ f k ++ flat_map f (run_from (k + 1) (end - (k + 1)))
+unfolding run_from
+flat-run_from f k end below =
+    let e : end - k ≡ suc (end - (k + 1)) = omega (arith, below) in
+    ap (λ (n : ℕ). flat_map f (run_from k n)) e
+
+pub flat-run_past : (f : ℕ → List ℕ) (k end : ℕ) → end ≤ k → flat_map f (run_from k (end - k)) ≡ []
+unfolding run_from
+flat-run_past f k end over =
+    let e : end - k ≡ zero = omega (arith, over) in
+    ap (λ (n : ℕ). flat_map f (run_from k n)) e

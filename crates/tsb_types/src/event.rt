@@ -54,6 +54,10 @@ pub const CLEARANCE_BEGINS: u8 = 22;
 pub const DONT_WALK_BEGINS: u8 = 23;
 /// Barrier termination: a crossing is completed. The parameter is the side that is served from now on (profile).
 pub const BARRIER_CROSSED: u8 = 31;
+/// FYA begin permissive: an arrow begins to flash yellow. The parameter is its overlap.
+pub const ARROW_BEGINS: u8 = 32;
+/// FYA end permissive: it flashes yellow no longer, also where the monitor has the heads flash red.
+pub const ARROW_ENDS: u8 = 33;
 /// Phase call registered: the vehicle call of a phase that is not Green comes. None comes of a recall, but in the form of
 /// a log that has recalls.
 pub const CALL_COMES: u8 = 43;
@@ -61,13 +65,16 @@ pub const CALL_COMES: u8 = 43;
 pub const CALL_GOES: u8 = 44;
 /// Pedestrian call registered.
 pub const PEDESTRIAN_CALL_COMES: u8 = 45;
-/// Overlap begin green.
+/// Overlap begin green: neither a trailing green nor one that its phases take back.
 pub const OVERLAP_GREEN_BEGINS: u8 = 61;
-/// Overlap begin yellow.
+/// Overlap begin trailing green: its phases end, and it stays green.
+pub const OVERLAP_TRAIL_BEGINS: u8 = 62;
+/// Overlap begin yellow, also after an arrow's flashing yellow.
 pub const OVERLAP_YELLOW_BEGINS: u8 = 63;
-/// Overlap begin red clearance: it was green or yellow, and is neither.
+/// Overlap begin red clearance: it was green, yellow or flashing yellow, and is none of these.
 pub const OVERLAP_RED_BEGINS: u8 = 64;
-/// Overlap off: it is neither green nor yellow, and no phase that it includes is in service (profile).
+/// Overlap off: it is neither green, yellow nor flashing yellow, and no phase that it includes is in service, nor the
+/// turn of an arrow (profile).
 pub const OVERLAP_OFF: u8 = 65;
 /// Vehicle detector off: its input, before the plan's delay and extension; in the form of a log that has outputs, what it
 /// gives after them.

@@ -2,6 +2,9 @@
 //! which phases are called and timed out, and what the rings do about it. `docs/work/CONTRACTS.md` says who finds each
 //! value, and who reads it.
 
+ghost use Rattle.tsb_types.specs.Flow.{AreUnlit};
+
+use crate::number_set::NumberSet;
 use crate::numbers::{Phase, Side};
 use crate::phase_set::PhaseSet;
 
@@ -96,4 +99,29 @@ pub struct Moves {
     pub crossing: Option<Side>,
     /// Whether a crossing that began earlier is completed now.
     pub completes: bool,
+}
+
+/// What overlaps are in that have intervals of their own, as arrows and overlaps that trail do: one in none of the sets is
+/// red. No overlap is in two of them.
+#[derive(Clone, Copy, PartialEq, Eq)]
+pub struct OverlapLights {
+    /// Overlaps whose head is green, also after their phases.
+    pub green: NumberSet,
+    /// Overlaps whose head flashes yellow.
+    pub flashing: NumberSet,
+    /// Overlaps whose head is yellow.
+    pub yellow: NumberSet,
+}
+
+impl OverlapLights {
+    /// None is lit.
+    pub fn none() -> OverlapLights
+        ensures { AreUnlit result }
+    {
+        OverlapLights {
+            green: NumberSet::empty(),
+            flashing: NumberSet::empty(),
+            yellow: NumberSet::empty(),
+        }
+    }
 }

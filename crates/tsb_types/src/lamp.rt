@@ -2,7 +2,7 @@
 
 use crate::numbers::{Overlap, Phase};
 
-/// What a vehicle head shows, a phase's or an overlap's. Green and yellow give right of way.
+/// What a vehicle head shows, a phase's or an overlap's. Green and yellow give right of way; flashing yellow does not.
 #[derive(Clone, Copy, PartialEq, Eq)]
 pub enum Aspect {
     /// The phase is not enabled, or the overlap includes no phase (profile).
@@ -15,6 +15,8 @@ pub enum Aspect {
     Green,
     /// Red, on and off: the monitor has tripped the controller.
     FlashingRed,
+    /// Yellow, on and off: an arrow lets its turn go by gaps in the traffic that opposes it.
+    FlashingYellow,
 }
 
 /// What a phase's pedestrian head shows.
@@ -63,4 +65,6 @@ pub enum Lamp {
     Pedestrian(Phase, PedestrianColor),
     /// A lamp of the vehicle head of an overlap.
     Overlap(Overlap, SignalColor),
+    /// The flashing yellow of the head of an overlap, as arrows have it.
+    Arrow(Overlap),
 }

@@ -25,7 +25,7 @@ pub use calendar::ClockDate;
 pub use clock_time::{ClockTime, DAY};
 pub use detector_set::DetectorSet;
 pub use event::Event;
-pub use flow::{Called, Intervals, Moves, Orders, Pedestrians, RingMoves, Timing};
+pub use flow::{Called, Intervals, Moves, Orders, OverlapLights, Pedestrians, RingMoves, Timing};
 pub use interval::{Interval, PedestrianInterval};
 pub use lamp::{Aspect, Lamp, PedestrianAspect, PedestrianColor, SignalColor};
 pub use number_set::NumberSet;

@@ -1,7 +1,7 @@
 -- Mistakes in the cells, the values and the indices of plans, each with an example that tells it from the definition.
 use Rattle.std.specs.Prelude.{◌≡◌, ℕ, ◌+◌, ◌-◌, ◌*◌, ◌==◌, true, if◌then◌else◌, List, [], ◌∷◌, map, None, Ok, refl}
 use Rattle.tsb_plan.specs.declared.object.Object.{Object}
-use Rattle.tsb_plan.specs.declared.object.Object.TheVariants.{PhaseWalk, SplitTime, SplitMode, CoordCorrectionMode, CoordCorrectionLimit, TimebaseAscPattern}
+use Rattle.tsb_plan.specs.declared.object.Object.TheVariants.{PhaseWalk, SplitTime, SplitMode, CoordCorrectionMode, CoordCorrectionLimit, ChannelControlType}
 use Rattle.tsb_plan.specs.declared.object.ObjectId.{ObjectId}
 use Rattle.tsb_plan.specs.declared.object.TheConstants.{PLAN_CELLS}
 use Rattle.tsb_plan.specs.declared.plan.patterns.CorrectionMode.{CorrectionMode}
@@ -31,11 +31,11 @@ would_be_shared = refl
 abbrev pub cell_from_0 : Object → ℕ → ℕ
 cell_from_0 o i = first_cell o + i
 
-is_last : first_cell TimebaseAscPattern + (32 - 1) + 1 ≡ PLAN_CELLS
+is_last : first_cell ChannelControlType + (16 - 1) + 1 ≡ PLAN_CELLS
 unfolding first_cell objects
 is_last = refl
 
-would_be_outside : cell_from_0 TimebaseAscPattern 32 ≡ PLAN_CELLS
+would_be_outside : cell_from_0 ChannelControlType 16 ≡ PLAN_CELLS
 unfolding first_cell objects
 would_be_outside = refl
 

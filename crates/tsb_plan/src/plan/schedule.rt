@@ -6,7 +6,7 @@ ghost use Rattle.std.specs.Prelude.{◌≡◌, ◌==◌, ◌≤◌, ◌*◌, ◌
 ghost use Rattle.tsb_plan.specs.Objects.{has_index};
 ghost use Rattle.tsb_plan.specs.declared.object.Object.TheVariants.{DayPlanHour};
 ghost use Rattle.tsb_plan.specs.PlanOf.{plan_of};
-ghost use Rattle.tsb_plan.specs.Schedule.{action_of, asked_by, day_plan_of, event_index, has_bit, has_schedule, names_date, names_month, names_weekday, pattern_for, selected_by, time_of};
+ghost use Rattle.tsb_plan.specs.Schedule.{action_of, asked_by, day_plan_of, event_index, has_bit, has_schedule, names_date, names_month, names_weekday, omitted_by, pattern_for, selected_by, time_of};
 
 use crate::object::Object;
 use crate::plan::Plan;
@@ -159,5 +159,17 @@ impl Plan {
             return 0;
         }
         pattern_for(self.asked_by(action))
+    }
+
+    /// The list of arrows that an action omits, the sum of `2^(overlap - 1)` over them (`actionArrowOmit`, profile). It
+    /// is 0 for action 0, no action.
+    pub fn omitted_by(&self, action: u32) -> u32
+        requires to { action ≤ 32 }
+        ensures { result ≡ omitted_by (plan_of self.now) action }
+    {
+        if action == 0 {
+            return 0;
+        }
+        self.value(Object::ActionArrowOmit, action)
     }
 }

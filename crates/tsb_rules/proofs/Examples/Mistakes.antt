@@ -1,21 +1,21 @@
 -- Mistakes in rules, each with a plan that it would let pass and what then is no longer so of every plan. The plans are
 -- the built-in one of eight phases with a few values changed.
-use Rattle.std.specs.Prelude.{◌≡◌, ℕ, nat_le, Bool, true, false, not, ◌&&◌, ◌||◌, [], ◌∷◌, Option, Some, None, refl}
+use Rattle.std.specs.Prelude.{◌≡◌, ℕ, nat_le, ◌==◌, Bool, true, false, not, ◌&&◌, ◌||◌, [], ◌∷◌, Option, Some, None, refl}
 use Rattle.std.specs.List.{list_all}
-use Rattle.tsb_plan.specs.declared.object.Object.TheVariants.{PhaseConcurrency, PatternLeadLag, PatternOffsetTime, PatternPermissiveTime, PreemptTrackPhase, PreemptDwellPhase, PreemptExitPhase, SequenceData, SplitCoordPhase}
-use Rattle.tsb_types.specs.Lists.{among, run_from}
-use Rattle.tsb_plan.specs.Parts.{cycle, is_coordinated, is_dwell_phase, leads_and_lags, offset, permissive_time, sequence_of, split_of}
+use Rattle.tsb_plan.specs.declared.object.Object.TheVariants.{OverlapIncludedPhases, OverlapModifierPhases, OverlapTrailGreen, OverlapTrailYellow, OverlapType, PhaseConcurrency, PatternLeadLag, PatternOffsetTime, PatternPermissiveTime, PreemptTrackPhase, PreemptDwellPhase, PreemptExitPhase, SequenceData, SplitCoordPhase}
+use Rattle.tsb_types.specs.Lists.{among, first, run_from}
+use Rattle.tsb_plan.specs.Parts.{cycle, includes_none, is_coordinated, is_dwell_phase, is_included, is_modifier, leads_and_lags, offset, permissive_time, sequence_of, split_of, trail_yellow}
 use Rattle.tsb_plan.specs.Plan.{Plan, is_concurrent, phases, sequence, with_value, with_values}
 use Rattle.tsb_plan.specs.Quad.{quad}
 use Rattle.tsb_rules.specs.declared.rules.Rule.{Rule}
-use Rattle.tsb_rules.specs.declared.rules.Rule.TheVariants.{K1, K2, K3, K4, K5, K6, K7, K14, K15, K16, K17, K18, K19, K20, K21, K22, K23}
+use Rattle.tsb_rules.specs.declared.rules.Rule.TheVariants.{K1, K2, K3, K4, K5, K6, K7, K14, K15, K16, K17, K18, K19, K20, K21, K22, K23, K28, K29}
 use Rattle.tsb_rules.specs.PatternRules.{agrees_with_all, coordinated_agree, coordinated_count, coordinated_phases_agree, each_pattern, has_coordinated, may_coordinate, names_sequence, names_split, patterns_are_whole, some_and, split_end, split_sum, side_sum, splits_fill_cycles, splits_hold_phases}
-use Rattle.tsb_rules.specs.Rules.{are_placed, broken_by_extensions, broken_by_parts, broken_by_phases, broken_by_rings, broken_by_schedule, concurrency_is_symmetric, first_broken, included_phases_are_enabled, limits_reach_minimums, lists_name_across_rings, modifiers_are_right, names_enabled, or_rule, preempts_are_concurrent, preempts_dwell, some_enabled, unless, unused_lists_are_empty}
+use Rattle.tsb_rules.specs.Rules.{are_placed, arrows_are_right, broken_by_extensions, broken_by_parts, broken_by_phases, broken_by_rings, broken_by_schedule, broken_by_overlaps, concurrency_is_symmetric, first_broken, included_phases_are_enabled, limits_reach_minimums, lists_name_across_rings, modifiers_are_right, names_enabled, only_passes, or_rule, preempts_are_concurrent, preempts_dwell, some_enabled, trails_are_right, unless, unused_lists_are_empty}
 use Rattle.tsb_rules.specs.SequenceRules.{first_sequence_is_ordered, lists_once, lists_only, other_sequences_are_ordered, rises, zeros_last}
 
 -- what a computed line opens
 unfoldable pub opened : Unit {0}
-unfolding quad run_from first_broken broken_by_rings broken_by_phases broken_by_parts broken_by_extensions broken_by_schedule split_sum side_sum split_end coordinated_count
+unfolding quad run_from first_broken broken_by_rings broken_by_phases broken_by_parts broken_by_extensions broken_by_schedule broken_by_overlaps split_sum side_sum split_end coordinated_count
 opened = tt
 
 -- the first rule that a plan breaks, with these tests in place of K5 and K6
@@ -60,6 +60,18 @@ broken_with_times ends plan =
     (unless (limits_reach_minimums plan) K22
     (unless (ends plan) K23
     None)))))
+
+-- and with these in place of K28 and K29
+abbrev pub broken_with_overlaps : (Plan → Bool) → (Plan → Bool) → Plan → Option Rule
+broken_with_overlaps points trail plan =
+    or_rule (broken_by_rings plan)
+    (or_rule (broken_by_phases plan)
+    (or_rule (broken_by_parts plan)
+    (or_rule (broken_by_extensions plan)
+    (or_rule (broken_by_schedule plan)
+    (unless (points plan) K28
+    (unless (trail plan) K29
+    None))))))
 
 -- ## A plan that breaks no rule: its second pattern begins 40 seconds later
 
@@ -272,3 +284,101 @@ would_pass_always = refl
 is_always_permitted : permissive_time always 2 ≡ cycle always 2
 unfolding opened always
 is_always_permitted = refl
+
+-- ## K28 lets the turn of an arrow be concurrent with an included phase: phase 5 turns, and phase 2 is included
+
+-- an overlap of type 2 includes a phase, and its first modifier phase is as another test asks
+abbrev pub arrows_with : (Plan → ℕ → Option ℕ → Bool) → Plan → Bool
+arrows_with turns plan =
+    list_all (λ o. not (plan.value OverlapType o == 2) || (not (includes_none plan o) && turns plan o (first (is_modifier plan o) (phases plan)))) (run_from 1 plan.counts.overlaps)
+
+abbrev pub turns_beside : Plan → ℕ → Option ℕ → Bool
+turns_beside plan o None = false
+turns_beside plan o (Some t) =
+    only_passes plan (is_modifier plan o) t && list_all (λ p. not (is_included plan o p) || not (p == t)) (phases plan)
+
+abbrev pub with_turns_beside : Plan → Option Rule
+with_turns_beside plan = broken_with_overlaps (arrows_with turns_beside) trails_are_right plan
+
+-- overlap 2 is an arrow whose permissive phase is phase 2
+abbrev pub with_arrow : ℕ → Plan
+with_arrow turns = with_values quad ((OverlapType, 2, 2) ∷ (OverlapIncludedPhases, 2, 2) ∷ (OverlapModifierPhases, 2, turns) ∷ [])
+
+-- with phase 1 as its turn it breaks no rule
+unfoldable pub arrow : Plan
+arrow = with_arrow 1
+
+arrow_breaks_none : first_broken arrow ≡ None
+unfolding opened arrow
+arrow_breaks_none = refl
+
+unfoldable pub beside : Plan
+beside = with_arrow 16
+
+breaks_K28 : first_broken beside ≡ Some K28
+unfolding opened beside
+breaks_K28 = refl
+
+would_pass_beside : with_turns_beside beside ≡ None
+unfolding opened beside
+would_pass_beside = refl
+
+turns_beside_2 : is_modifier beside 2 5 && (is_included beside 2 2 && is_concurrent beside 5 2) ≡ true
+unfolding opened beside
+turns_beside_2 = refl
+
+-- ## K28 lets an arrow have two modifier phases, 1 and 3, the first as its turn
+
+abbrev pub many_turns : Plan → ℕ → Option ℕ → Bool
+many_turns plan o None = false
+many_turns plan o (Some t) = list_all (λ p. not (is_included plan o p) || (not (p == t) && not (is_concurrent plan t p))) (phases plan)
+
+abbrev pub with_many_turns : Plan → Option Rule
+with_many_turns plan = broken_with_overlaps (arrows_with many_turns) trails_are_right plan
+
+unfoldable pub two_turns : Plan
+two_turns = with_arrow 5
+
+breaks_K28_twice : first_broken two_turns ≡ Some K28
+unfolding opened two_turns
+breaks_K28_twice = refl
+
+would_pass_two_turns : with_many_turns two_turns ≡ None
+unfolding opened two_turns
+would_pass_two_turns = refl
+
+turns_with_3 : is_modifier two_turns 2 1 && is_modifier two_turns 2 3 ≡ true
+unfolding opened two_turns
+turns_with_3 = refl
+
+-- ## K29 lets an overlap trail without a yellow: overlap 1 stays green for 3 s, and is red then
+
+abbrev pub with_no_yellow : Plan → Option Rule
+with_no_yellow plan =
+    broken_with_overlaps arrows_are_right (λ p. list_all (λ o. trail_yellow p o == 0 || nat_le 30 (trail_yellow p o)) (run_from 1 p.counts.overlaps)) plan
+
+abbrev pub with_trail : ℕ → Plan
+with_trail yellow = with_values quad ((OverlapTrailGreen, 1, 3) ∷ (OverlapTrailYellow, 1, yellow) ∷ [])
+
+-- with a yellow of 3 s it breaks no rule
+unfoldable pub trail : Plan
+trail = with_trail 30
+
+trail_breaks_none : first_broken trail ≡ None
+unfolding opened trail
+trail_breaks_none = refl
+
+unfoldable pub unlit : Plan
+unlit = with_trail 0
+
+breaks_K29 : first_broken unlit ≡ Some K29
+unfolding opened unlit
+breaks_K29 = refl
+
+would_pass_unlit : with_no_yellow unlit ≡ None
+unfolding opened unlit
+would_pass_unlit = refl
+
+has_no_yellow : trail_yellow unlit 1 ≡ 0
+unfolding opened unlit
+has_no_yellow = refl

@@ -1,4 +1,4 @@
-//! Rules K14, K15, K16 and K21: the lists of overlaps and preempts.
+//! Rules K14, K15, K16, K21, K28 and K29: overlaps and preempts.
 #![tactic(auto, unfolding(tsb_plan::specs::PlanOf::plan_of))]
 
 ghost use Rattle.tsb_types.specs.declared.limits.TheConstants.{OVERLAPS, PREEMPTS};
@@ -9,7 +9,7 @@ ghost use Rattle.tsb_plan.specs.Objects.{indices};
 ghost use Rattle.tsb_plan.specs.Plan.{is_enabled};
 ghost use Rattle.tsb_plan.specs.PlanOf.{plan_of};
 ghost use Rattle.tsb_rules.specs.Asked.{each_named, overlap_meets, preempt_meets, named_meets};
-ghost use Rattle.tsb_rules.specs.Rules.{names_enabled, goes_with_all, names_concurrent, has_concurrent_lists, dwells_or_is_empty, modifies_rightly};
+ghost use Rattle.tsb_rules.specs.Rules.{names_enabled, goes_with_all, names_concurrent, has_concurrent_lists, dwells_or_is_empty, modifies_rightly, turns_alone, points_rightly, trails_rightly};
 ghost use Rattle.tsb_types.specs.Lists.{run_from};
 ghost use Rattle.tsb_types.specs.Sets.{names};
 
@@ -29,6 +29,10 @@ pub(super) enum OfNamed {
     NamesBack(Phase),
     /// K15: it is this phase or concurrent with it.
     GoesWith(Phase),
+    /// K28: it is this phase, as one of the modifier phases of an arrow.
+    Is(Phase),
+    /// K28: it is neither this phase, the turn of an arrow, nor concurrent with it.
+    Opposes(Phase),
 }
 
 /// What a rule asks of each overlap.
@@ -36,8 +40,12 @@ pub(super) enum OfNamed {
 pub(super) enum OfOverlap {
     /// K14: its included phases are enabled.
     IncludesEnabled,
-    /// K21: its modifier phases are enabled, and it has none where it is not minusGreenYellow.
+    /// K21: its modifier phases are enabled, and it has none where it is normal.
     ModifiesRightly,
+    /// K28: an arrow includes a phase, and has one modifier phase that goes with none of them.
+    PointsRightly,
+    /// K29: its trailing yellow is whole, and one that trails is normal and has one.
+    TrailsRightly,
 }
 
 /// What a rule asks of each preempt.
@@ -58,6 +66,8 @@ fn named_meets(plan: &Plan, asked: OfNamed, other: Phase) -> bool
         OfNamed::IsAcross(phase) => may_be_concurrent(plan, phase, other),
         OfNamed::NamesBack(phase) => plan.concurrency(other).contains(phase),
         OfNamed::GoesWith(phase) => phase == other || plan.concurrency(phase).contains(other),
+        OfNamed::Is(phase) => other == phase,
+        OfNamed::Opposes(phase) => other != phase && !plan.concurrency(phase).contains(other),
     }
 }
 
@@ -79,6 +89,8 @@ fn overlap_meets(plan: &Plan, asked: OfOverlap, overlap: Overlap) -> bool
     match asked {
         OfOverlap::IncludesEnabled => includes_enabled(plan, overlap),
         OfOverlap::ModifiesRightly => modifies_rightly(plan, overlap),
+        OfOverlap::PointsRightly => points_rightly(plan, overlap),
+        OfOverlap::TrailsRightly => trails_rightly(plan, overlap),
     }
 }
 
@@ -142,12 +154,52 @@ fn names_enabled(plan: &Plan, list: u16) -> bool
     each_named(plan, list, OfNamed::IsEnabled)
 }
 
-/// K21: the modifier phases of the overlap are enabled, and there are none where it is not minusGreenYellow.
+/// K21: the modifier phases of the overlap are enabled, and there are none where it is normal.
 fn modifies_rightly(plan: &Plan, overlap: Overlap) -> bool
     ensures { result ≡ modifies_rightly (plan_of plan.now) overlap }
 {
     let modifiers = of_overlap(plan, Object::OverlapModifierPhases, overlap);
-    names_enabled(plan, modifiers) && (plan.is_minus_green_yellow(overlap) || modifiers == 0)
+    names_enabled(plan, modifiers)
+        && (of_overlap(plan, Object::OverlapType, overlap) != 0 || modifiers == 0)
+}
+
+/// K28: the overlap, where it is of type 2, includes a phase, and has one modifier phase, which goes with none that it
+/// includes.
+fn points_rightly(plan: &Plan, overlap: Overlap) -> bool
+    ensures { result ≡ points_rightly (plan_of plan.now) overlap }
+{
+    of_overlap(plan, Object::OverlapType, overlap) != 2
+        || of_overlap(plan, Object::OverlapIncludedPhases, overlap) != 0
+            && turns_alone(plan, overlap, plan.modifier_phases(overlap).first())
+}
+
+/// Whether there is that turn, the overlap has no other modifier phase, and it opposes each phase that the overlap includes.
+fn turns_alone(plan: &Plan, overlap: Overlap, turn: Option<Phase>) -> bool
+    ensures { result ≡ turns_alone (plan_of plan.now) overlap turn }
+{
+    match turn {
+        None => false,
+        Some(turn) => each_named(
+            plan,
+            of_overlap(plan, Object::OverlapModifierPhases, overlap),
+            OfNamed::Is(turn),
+        ) && each_named(
+            plan,
+            of_overlap(plan, Object::OverlapIncludedPhases, overlap),
+            OfNamed::Opposes(turn),
+        ),
+    }
+}
+
+/// K29: the trailing yellow of the overlap is 0 or at least 30 tenths of a second, and one that trails is normal and has one.
+fn trails_rightly(plan: &Plan, overlap: Overlap) -> bool
+    ensures { result ≡ trails_rightly (plan_of plan.now) overlap }
+{
+    let yellow = of_overlap(plan, Object::OverlapTrailYellow, overlap);
+    let is_whole = yellow == 0 || 30 <= yellow;
+    is_whole
+        && (of_overlap(plan, Object::OverlapTrailGreen, overlap) == 0
+            || yellow != 0 && of_overlap(plan, Object::OverlapType, overlap) == 0)
 }
 
 /// K15: each list of the preempt names only enabled phases, pairwise concurrent.

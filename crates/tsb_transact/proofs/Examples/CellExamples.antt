@@ -1,7 +1,7 @@
 -- What the table of cells gives, by computing: places of objects, and desks that are written and read again.
 use Rattle.std.specs.Prelude.{◌≡◌, [], ◌∷◌, length, take, drop, refl}
 use Rattle.tsb_objects.specs.tsb_types.Lists.{run_from}
-use Rattle.tsb_plan.specs.declared.object.Object.TheVariants.{PhaseEnabled, PhaseNonLock, UnitMax2, SplitTime, TimebaseAscPattern}
+use Rattle.tsb_plan.specs.declared.object.Object.TheVariants.{PhaseEnabled, PhaseNonLock, UnitMax2, SplitTime, ChannelControlType}
 use Rattle.tsb_plan.specs.declared.object.TheConstants.{PLAN_CELLS}
 use Rattle.tsb_plan.specs.Objects.{objects, first_cell}
 use Rattle.tsb_transact.specs.Desk.{closed}
@@ -18,7 +18,7 @@ second_object : place_of (at PhaseNonLock 1) ≡ 17
 unfolding first_cell objects
 second_object = refl
 
-last_place : place_of (at TimebaseAscPattern 32) ≡ PLAN_CELLS
+last_place : place_of (at ChannelControlType 16) ≡ PLAN_CELLS
 unfolding first_cell objects
 last_place = refl
 
@@ -34,7 +34,7 @@ reads_a_unit_object : id_at (place_of (at UnitMax2 1)) ≡ at UnitMax2 1
 unfolding first_cell objects
 reads_a_unit_object = refl
 
-reads_last : id_at PLAN_CELLS ≡ at TimebaseAscPattern 32
+reads_last : id_at PLAN_CELLS ≡ at ChannelControlType 16
 unfolding objects
 reads_last = refl
 

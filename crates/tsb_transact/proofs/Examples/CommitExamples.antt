@@ -6,7 +6,7 @@ use Rattle.tsb_objects.specs.tsb_types.declared.interval.Interval.{Interval}
 use Rattle.tsb_objects.specs.tsb_types.declared.interval.Interval.TheVariants.{Red, RedClear}
 use Rattle.tsb_objects.specs.tsb_types.declared.refusal.Refusal.TheVariants.{NotVerified, InService}
 use Rattle.tsb_objects.specs.tsb_rules.declared.rules.Rule.TheVariants.{K8}
-use Rattle.tsb_objects.specs.tsb_rules.Rules.{first_broken, broken_by_rings, broken_by_phases, broken_by_parts, broken_by_extensions, broken_by_schedule}
+use Rattle.tsb_objects.specs.tsb_rules.Rules.{first_broken, broken_by_rings, broken_by_phases, broken_by_parts, broken_by_extensions, broken_by_schedule, broken_by_overlaps}
 use Rattle.tsb_plan.specs.declared.object.Object.TheVariants.{PhaseSide, PhaseConcurrency, PhaseMaximum1, PhaseYellowChange, PreemptDelay, PreemptTrackPhase, PreemptDwellPhase, PreemptExitPhase}
 use Rattle.tsb_plan.specs.Quad.{quad}
 use Rattle.tsb_plan.specs.Two.{two}
@@ -112,12 +112,12 @@ abbrev pub long_yellow : Desk
 long_yellow = with_set (at PhaseYellowChange 2) 35 short_yellow
 
 long_enough : verified two long_yellow ≡ record long_yellow { state = Done }
-unfolding two first_broken broken_by_rings broken_by_phases broken_by_parts broken_by_extensions broken_by_schedule run_from
+unfolding two first_broken broken_by_rings broken_by_phases broken_by_parts broken_by_extensions broken_by_schedule broken_by_overlaps run_from
 long_enough = refl
 
 -- a transaction of no edits is in order
 nothing_to_do : verified two (begun 3) ≡ record (begun 3) { state = Done }
-unfolding two first_broken broken_by_rings broken_by_phases broken_by_parts broken_by_extensions broken_by_schedule run_from
+unfolding two first_broken broken_by_rings broken_by_phases broken_by_parts broken_by_extensions broken_by_schedule broken_by_overlaps run_from
 nothing_to_do = refl
 
 -- another side for phase 4 is a change of the structure
@@ -125,7 +125,7 @@ abbrev pub other_side : Desk
 other_side = with_set (at PhaseSide 4) 3 (begun 3)
 
 other_side_is_done : verified two other_side ≡ record other_side { state = Done }
-unfolding two first_broken broken_by_rings broken_by_phases broken_by_parts broken_by_extensions broken_by_schedule run_from
+unfolding two first_broken broken_by_rings broken_by_phases broken_by_parts broken_by_extensions broken_by_schedule broken_by_overlaps run_from
 other_side_is_done = refl
 
 other_side_waits : commit_refusal two 3 true false (record other_side { state = Done }) ≡ Some InService

@@ -1,4 +1,4 @@
-use Rattle.std.proofs.Common.{◌≡◌, ◌≤◌, ◌-◌, ℕ, ◌+◌, ap, ◌∙◌, arith, inl, inr}
+use Rattle.std.proofs.Common.{◌≡◌, ◌≤◌, ◌-◌, ap, ◌∙◌, arith, inl, inr}
 use Rattle.tsb_types.specs.Calendar.{month_up_to}
 use Rattle.tsb_types.proofs.CalendarLemmas.{month_on}
 use Rattle.tsb_types.proofs.calendar.month_of.Goals.{then-days_before-day, else-days_before-day}

@@ -1,9 +1,8 @@
-use Rattle.std.proofs.Common.{◌≡◌, ℕ, ◌+◌, ◌-◌, ◌*◌, ◌%◌, ◌<◌, ◌≤◌, ◌&&◌, ◌||◌, Bool, false, [], get_or, arith, sym, ◌∙◌, ap}
+use Rattle.std.proofs.Common.{◌≡◌, ℕ, ◌+◌, ◌-◌, ◌*◌, ◌%◌, ◌<◌, ◌&&◌, ◌||◌, Bool, false, [], get_or, arith, sym, ◌∙◌, ap}
 use Rattle.tsb_types.specs.declared.limits.TheConstants.{VEHICLE_DETECTORS}
 use Rattle.tsb_types.specs.Lists.{some_passes, run_from}
 use Rattle.tsb_types.specs.Sets.{names, has, has_detector}
 use Rattle.tsb_types.proofs.SetLemmas.{names-zero}
-use Rattle.tsb_objects.specs.Unions.{AreWideUnions}
 use Rattle.tsb_objects.proofs.UnionLemmas.{names-high, wide-more, wide-end}
 use Rattle.tsb_objects.proofs.unions.WideUnions.of.Goals as goal
 

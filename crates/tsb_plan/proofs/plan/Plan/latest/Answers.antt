@@ -1,4 +1,4 @@
-use Rattle.std.proofs.Common.{◌≡◌, ℕ, List, Option, sym, ap, ◌∙◌, ◌+◌, ◌-◌, arith}
+use Rattle.std.proofs.Common.{ℕ, List, Option, sym, ap, ◌∙◌, ◌+◌, ◌-◌, arith}
 use Rattle.tsb_types.specs.Lists.{run_from}
 use Rattle.tsb_plan.specs.Acting.{latest}
 use Rattle.tsb_plan.specs.PlanOf.{plan_of}
