@@ -29,22 +29,6 @@ none-of a (suc n) test none k from below =
       | inr other ↦ none-of (a + 1) n test parts.1 k (omega (arith, from, other)) (omega (arith, below))
     ]
 
--- one of a run passes
-pub any-at : (test : ℕ → Bool) (a n k : ℕ) → a ≤ k → k < a + n → test k ≡ true → list_any test (run_from a n) ≡ true
-unfolding run_from
-any-at test a zero k from below on = absurd (omega (arith, from, below))
-any-at test a (suc n) k from below on =
-    elim (cases_eq a k) [
-      | inl same ↦ or_left (test a) (list_any test (run_from (a + 1) n)) (ap test same ∙ on)
-      | inr other ↦ or_right (test a) (list_any test (run_from (a + 1) n)) (any-at test (a + 1) n k (omega (arith, from, other)) (omega (arith, below)) on)
-    ]
-
-pub any-never : (test : ℕ → Bool) (a n : ℕ) → ((k : ℕ) → a ≤ k → k < a + n → test k ≡ false) → list_any test (run_from a n) ≡ false
-unfolding run_from
-any-never test a zero never = refl
-any-never test a (suc n) never =
-    or-same _ _ _ _ (never a (omega arith) (omega arith)) (any-never test (a + 1) n (λ k from below. never k (omega (arith, from)) (omega (arith, below))))
-
 -- what is kept green, and what is on its last yellow
 kept-by : (included clearing green now was : Bool) → (now ≡ true → was ≡ true) → (included && (clearing && was)) ≡ false →
     (included && (green || (clearing && now))) ≡ (included && (green || (clearing && was)))

@@ -1,7 +1,7 @@
 -- What heads show beside red and green, as tests.
 use Rattle.std.specs.Prelude.{Bool, true, false}
 use Rattle.tsb_objects.specs.tsb_types.declared.lamp.Aspect.{Aspect}
-use Rattle.tsb_objects.specs.tsb_types.declared.lamp.Aspect.TheVariants.{Dark, Red, Yellow, Green, FlashingRed}
+use Rattle.tsb_objects.specs.tsb_types.declared.lamp.Aspect.TheVariants.{Dark, Red, Yellow, Green, FlashingRed, FlashingYellow}
 use Rattle.tsb_objects.specs.tsb_types.declared.lamp.PedestrianAspect.{PedestrianAspect}
 use Rattle.tsb_objects.specs.tsb_types.declared.lamp.PedestrianAspect.TheVariants as pedestrian_aspects
 
@@ -12,6 +12,7 @@ is_yellow Dark = false
 is_yellow Red = false
 is_yellow Green = false
 is_yellow FlashingRed = false
+is_yellow FlashingYellow = false
 
 -- flashing red, which gives no right of way: so a head shows it that was not dark when the monitor tripped the
 -- controller
@@ -21,6 +22,16 @@ is_flashing Dark = false
 is_flashing Red = false
 is_flashing Yellow = false
 is_flashing Green = false
+is_flashing FlashingYellow = false
+
+-- the flashing yellow of an arrow: it gives way to what opposes it, and is no right of way
+abbrev pub is_flashing_yellow : Aspect → Bool
+is_flashing_yellow FlashingYellow = true
+is_flashing_yellow Dark = false
+is_flashing_yellow Red = false
+is_flashing_yellow Yellow = false
+is_flashing_yellow Green = false
+is_flashing_yellow FlashingRed = false
 
 -- don't walk is lit; a dark pedestrian head, as in flash, does not show it
 abbrev pub shows_dont_walk : PedestrianAspect → Bool

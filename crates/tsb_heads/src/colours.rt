@@ -1,7 +1,7 @@
 //! Which heads of a display show a colour, as sets of phases and of overlaps.
 ghost use Rattle.std.specs.Prelude.{◌≡◌};
 ghost use Rattle.tsb_heads.specs.Monitoring.{is_red, is_green};
-ghost use Rattle.tsb_heads.specs.Colours.{is_yellow, is_flashing, shows_dont_walk, shows_clearance, shows_walk};
+ghost use Rattle.tsb_heads.specs.Colours.{is_yellow, is_flashing, is_flashing_yellow, shows_dont_walk, shows_clearance, shows_walk};
 ghost use Rattle.tsb_heads.specs.Promises.{Flashes, TellsVehicles, TellsPedestrians, TellsOverlaps};
 
 use crate::display::Display;
@@ -93,6 +93,7 @@ impl Display {
             self.overlap_red
                 .difference(self.overlap_green)
                 .difference(self.overlap_yellow)
+                .difference(self.overlap_arrow)
         }
     }
 
@@ -103,7 +104,9 @@ impl Display {
         if self.flashing {
             NumberSet::empty()
         } else {
-            self.overlap_yellow.difference(self.overlap_green)
+            self.overlap_yellow
+                .difference(self.overlap_green)
+                .difference(self.overlap_arrow)
         }
     }
 
@@ -114,7 +117,7 @@ impl Display {
         if self.flashing {
             NumberSet::empty()
         } else {
-            self.overlap_green
+            self.overlap_green.difference(self.overlap_arrow)
         }
     }
 
@@ -126,8 +129,20 @@ impl Display {
             self.overlap_red
                 .union(self.overlap_yellow)
                 .union(self.overlap_green)
+                .union(self.overlap_arrow)
         } else {
             NumberSet::empty()
+        }
+    }
+
+    /// The overlaps whose head flashes yellow: arrows that let their turn go by gaps.
+    pub fn overlap_arrows(&self) -> NumberSet
+        ensures { TellsOverlaps is_flashing_yellow self.now result }
+    {
+        if self.flashing {
+            NumberSet::empty()
+        } else {
+            self.overlap_arrow
         }
     }
 }

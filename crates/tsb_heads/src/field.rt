@@ -79,6 +79,25 @@ impl Display {
             overlap_red: put(self.overlap_red, o, matches!(color, SignalColor::Red)),
             overlap_yellow: put(self.overlap_yellow, o, matches!(color, SignalColor::Yellow)),
             overlap_green: put(self.overlap_green, o, matches!(color, SignalColor::Green)),
+            overlap_arrow: put(self.overlap_arrow, o, false),
+            ..self
+        }
+    }
+
+    /// The display with the flashing yellow on the head of an overlap.
+    fn with_arrow(self, o: Overlap) -> Display
+        requires steady { Flashes false self }
+        requires apart { AreApart self }
+        ensures heads { IsSame (heads_of result) (laid_over (Some (lamps.Arrow o)) (heads_of self)) }
+        ensures steady { Flashes false result }
+        ensures apart { AreApart result }
+        ensures few { NamesOverlaps self → NamesOverlaps result }
+    {
+        Display {
+            overlap_red: put(self.overlap_red, o, false),
+            overlap_yellow: put(self.overlap_yellow, o, false),
+            overlap_green: put(self.overlap_green, o, false),
+            overlap_arrow: put(self.overlap_arrow, o, true),
             ..self
         }
     }
@@ -97,6 +116,7 @@ impl Display {
             Lamp::Phase(p, color) => self.with_vehicle(*p, *color),
             Lamp::Pedestrian(p, color) => self.with_pedestrian(*p, *color),
             Lamp::Overlap(o, color) => self.with_overlap(*o, *color),
+            Lamp::Arrow(o) => self.with_arrow(*o),
         }
     }
 }

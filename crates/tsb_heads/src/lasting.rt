@@ -1,9 +1,9 @@
 //! Whether an overlap lasts through a clearance by what a ring is committed to.
 ghost use Rattle.std.specs.Prelude.{◌≡◌};
 ghost use Rattle.tsb_objects.specs.Checked.{checked_plan};
-ghost use Rattle.tsb_heads.specs.Promises.{TellsLasting};
+ghost use Rattle.tsb_heads.specs.Promises.{TellsLasting, TellsKeeping};
 
-use crate::overlaps::{find_served, lasts};
+use crate::overlaps::{find_served, is_kept, lasts};
 use tsb_objects::limits::OVERLAPS;
 use tsb_objects::{Checked, Intervals, Overlap, Phase};
 
@@ -25,4 +25,18 @@ pub fn some_overlap_lasts(
         }
     }
     false
+}
+
+/// Whether an included phase keeps the overlap green, as a normal one, by the phases to which rings 1 and 2 are committed:
+/// it is Green, or in its clearance with another included phase to follow.
+pub fn keeps_green(
+    intervals: &Intervals,
+    ring_1: Option<Phase>,
+    ring_2: Option<Phase>,
+    o: Overlap,
+    plan: &Checked,
+) -> bool
+    ensures { TellsKeeping intervals.now ring_1 ring_2 o (checked_plan plan.now) result }
+{
+    is_kept(plan, o, &find_served(intervals, ring_1, ring_2, plan))
 }

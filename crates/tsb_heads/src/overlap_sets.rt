@@ -2,6 +2,7 @@
 ghost use Rattle.tsb_objects.specs.tsb_types.declared.limits.TheConstants.{OVERLAPS};
 ghost use Rattle.std.specs.Prelude.{◌≡◌, ◌≢◌, ◌<◌, ◌≤◌, ℕ, false};
 ghost use Rattle.tsb_objects.specs.tsb_types.declared.lamp.Aspect.TheVariants.{FlashingRed};
+ghost use Rattle.tsb_objects.specs.tsb_types.Flow.{light_of};
 ghost use Rattle.tsb_objects.specs.tsb_types.Sets.{has_number};
 ghost use Rattle.tsb_objects.specs.Checked.{checked_plan};
 ghost use Rattle.tsb_heads.specs.Heads.{Shown};
@@ -9,26 +10,28 @@ ghost use Rattle.tsb_heads.specs.Overlaps.{overlap_head};
 ghost use Rattle.tsb_heads.specs.Served.{IsServed};
 ghost use Rattle.tsb_heads.specs.OverlapSets.{HasNone, IsInOne, IsSameAt, aspect_of_overlap};
 
-use crate::overlaps::{ServedPhases, overlap_head};
-use tsb_objects::{Aspect, Checked, NumberSet, Overlap};
+use crate::overlaps::{ServedPhases, head_by_phases};
+use tsb_objects::{Aspect, Checked, NumberSet, Overlap, OverlapLights};
 
 /// The sets of overlaps whose heads show each colour.
 #[derive(Clone, Copy)]
-pub(crate) struct Overlaps {
+pub(crate) struct OverlapColours {
     pub(crate) red: NumberSet,
     pub(crate) yellow: NumberSet,
     pub(crate) green: NumberSet,
+    pub(crate) flashing: NumberSet,
 }
 
 /// No overlap has a head.
 #[inline(always)]
-fn no_overlaps() -> Overlaps
+fn no_overlaps() -> OverlapColours
     ensures { (n : ℕ) → HasNone result n }
 {
-    Overlaps {
+    OverlapColours {
         red: NumberSet::empty(),
         yellow: NumberSet::empty(),
         green: NumberSet::empty(),
+        flashing: NumberSet::empty(),
     }
 }
 
@@ -44,25 +47,62 @@ fn joined(set: NumberSet, o: Overlap, on: bool) -> NumberSet
 
 /// The sets with one more overlap, which is in none of them yet.
 #[inline(always)]
-fn with_overlap(heads: Overlaps, o: Overlap, aspect: Aspect) -> Overlaps
+fn with_overlap(heads: OverlapColours, o: Overlap, aspect: Aspect) -> OverlapColours
     requires fresh { HasNone heads o }
     requires steady { aspect ≢ FlashingRed }
     ensures here { aspect_of_overlap result o ≡ aspect }
     ensures one { IsInOne result o }
     ensures others { (n : ℕ) → n ≢ o → IsSameAt heads result n }
 {
-    Overlaps {
+    OverlapColours {
         red: joined(heads.red, o, matches!(aspect, Aspect::Red)),
         yellow: joined(heads.yellow, o, matches!(aspect, Aspect::Yellow)),
         green: joined(heads.green, o, matches!(aspect, Aspect::Green)),
+        flashing: joined(heads.flashing, o, matches!(aspect, Aspect::FlashingYellow)),
+    }
+}
+
+/// What the head of an overlap shows that has intervals of its own.
+#[inline(always)]
+fn light_of(lights: &OverlapLights, o: Overlap) -> Aspect
+    ensures light { result ≡ light_of lights.now o }
+    ensures steady { result ≢ FlashingRed }
+{
+    let number = o.number();
+    if lights.green.contains(number) {
+        Aspect::Green
+    } else if lights.flashing.contains(number) {
+        Aspect::FlashingYellow
+    } else if lights.yellow.contains(number) {
+        Aspect::Yellow
+    } else {
+        Aspect::Red
+    }
+}
+
+/// What the head of an overlap shows: by its own interval where it has one, and otherwise by the phases.
+#[inline(always)]
+fn head_of(plan: &Checked, o: Overlap, served: &ServedPhases, lights: &OverlapLights) -> Aspect
+    ensures head { (s : Shown) → IsServed (checked_plan plan.now) s served.now → ((n : ℕ) → s.light n ≡ light_of lights.now n) →
+        result ≡ overlap_head (checked_plan plan.now) s o }
+    ensures steady { result ≢ FlashingRed }
+{
+    if plan.timed_overlaps().contains(o.number()) {
+        light_of(lights, o)
+    } else {
+        head_by_phases(plan, o, served)
     }
 }
 
 /// What the heads of overlaps show. Only those that include a phase are looked at: the others are dark.
 #[inline(always)]
-pub(crate) fn overlaps_of(plan: &Checked, served: &ServedPhases) -> Overlaps
-    ensures heads { (s : Shown) → IsServed (checked_plan plan.now) s served.now → (o : ℕ) → 1 ≤ o → o ≤ OVERLAPS →
-        aspect_of_overlap result o ≡ overlap_head (checked_plan plan.now) s o }
+pub(crate) fn overlaps_of(
+    plan: &Checked,
+    served: &ServedPhases,
+    lights: &OverlapLights,
+) -> OverlapColours
+    ensures heads { (s : Shown) → IsServed (checked_plan plan.now) s served.now → ((n : ℕ) → s.light n ≡ light_of lights.now n) →
+        (o : ℕ) → 1 ≤ o → o ≤ OVERLAPS → aspect_of_overlap result o ≡ overlap_head (checked_plan plan.now) s o }
     ensures apart { (n : ℕ) → IsInOne result n }
     ensures few { (o : ℕ) → OVERLAPS < o → HasNone result o }
 {
@@ -71,7 +111,7 @@ pub(crate) fn overlaps_of(plan: &Checked, served: &ServedPhases) -> Overlaps
     while let Some(number) = rest.first() {
         rest = rest.with(number, false);
         let o = Overlap::of(number);
-        heads = with_overlap(heads, o, overlap_head(plan, o, served));
+        heads = with_overlap(heads, o, head_of(plan, o, served, lights));
     }
     heads
 }

@@ -1,9 +1,10 @@
 -- One-line mistakes, each with an example in which it differs from the definition.
 use Rattle.std.specs.Prelude.{◌≡◌, ℕ, nat_lt, Bool, true, false, not, ◌&&◌, ◌||◌, if◌then◌else◌, [], ◌∷◌, reverse, Option, Some, None, is_some, refl}
+use Rattle.std.specs.List.{list_any}
 use Rattle.std.specs.Option.{option_map, option_or}
 use Rattle.tsb_objects.specs.tsb_types.declared.interval.Interval.TheVariants as intervals
 use Rattle.tsb_objects.specs.tsb_types.declared.lamp.Aspect.{Aspect}
-use Rattle.tsb_objects.specs.tsb_types.declared.lamp.Aspect.TheVariants.{Dark, Red, Yellow, Green, FlashingRed}
+use Rattle.tsb_objects.specs.tsb_types.declared.lamp.Aspect.TheVariants.{Dark, Red, Yellow, Green, FlashingRed, FlashingYellow}
 use Rattle.tsb_objects.specs.tsb_types.declared.lamp.SignalColor.TheVariants as signals
 use Rattle.tsb_objects.specs.tsb_types.declared.lamp.PedestrianColor.TheVariants as pedestrians
 use Rattle.tsb_objects.specs.tsb_types.declared.lamp.Lamp.TheVariants as lamps
@@ -11,16 +12,17 @@ use Rattle.tsb_objects.specs.tsb_types.Intervals.{is_green, is_yellow, is_red_cl
 use Rattle.tsb_objects.specs.tsb_types.Lists.{first, run_from}
 use Rattle.tsb_objects.specs.tsb_plan.declared.object.Object.TheVariants.{OverlapType, OverlapModifierPhases}
 use Rattle.tsb_objects.specs.tsb_plan.Plan.{Plan, phases, walk, ring_of, with_values}
-use Rattle.tsb_objects.specs.tsb_plan.Parts.{is_included}
+use Rattle.tsb_objects.specs.tsb_plan.Parts.{is_included, is_modifier, is_arrow, includes_none}
 use Rattle.tsb_objects.specs.tsb_plan.Quad.{quad}
 use Rattle.tsb_objects.specs.tsb_rules.PatternRules.{some_and}
 use Rattle.tsb_heads.specs.declared.monitor.Trip.{Trip}
 use Rattle.tsb_heads.specs.declared.monitor.Trip.TheVariants.{Conflict, GreenToRed}
 use Rattle.tsb_heads.specs.Heads.{Shown, Heads, aspect_of, vehicle_head}
 use Rattle.tsb_heads.specs.Overlaps.{some_of, other_ring, comes_across, is_followed, is_kept_green, is_on_yellow, has_green_modifier, has_yellow_modifier, is_on_last_yellow, overlap_head}
+use Rattle.tsb_heads.specs.Colours.{is_flashing_yellow}
 use Rattle.tsb_heads.specs.Displays.{field}
-use Rattle.tsb_heads.specs.Monitoring.{gives_way, lets_walk, has_right_of_way, conflict_of, conflict_by, conflict, is_red, goes_red, green_to_red, judge}
-use Rattle.tsb_heads.proofs.Examples.Examples.{two_in, committed, through, across, to_3_and_6, crossed}
+use Rattle.tsb_heads.specs.Monitoring.{gives_way, lets_walk, is_green as is_green_head, has_right_of_way, has_green_arrow, has_way, conflict_of, conflict_by, conflict, is_red, goes_red, green_to_red, judge}
+use Rattle.tsb_heads.proofs.Examples.Examples.{two_in, committed, through, across, to_3_and_6, crossed, arrowed, lit}
 
 -- ## The head of a phase that is not enabled is red
 
@@ -117,6 +119,7 @@ gives_way_in_green Dark = false
 gives_way_in_green Red = false
 gives_way_in_green Yellow = false
 gives_way_in_green FlashingRed = false
+gives_way_in_green FlashingYellow = false
 
 abbrev pub yellow_on_3 : Aspect
 yellow_on_3 = (field quad through (Some (lamps.Phase 3 signals.Yellow))).vehicle 3
@@ -159,7 +162,7 @@ abbrev pub with_3_for_2 : Heads
 with_3_for_2 = field quad (two_in 3 intervals.Green 6 intervals.Green) None
 
 trips : judge quad before with_3_for_2 ≡ Some (Conflict 3 6)
-unfolding quad run_from conflict conflict_of
+unfolding quad run_from conflict conflict_of has_green_arrow
 trips = refl
 
 trips_not : never_trips quad before with_3_for_2 ≡ None
@@ -185,11 +188,11 @@ abbrev pub with_walk_of_3 : Heads
 with_walk_of_3 = field quad through (Some (lamps.Pedestrian 3 pedestrians.Walk))
 
 least_pair : conflict quad with_walk_of_3 ≡ Some (Conflict 2 3)
-unfolding quad run_from conflict conflict_of
+unfolding quad run_from conflict conflict_of has_green_arrow
 least_pair = refl
 
 greatest_pair : greatest_conflict quad with_walk_of_3 ≡ Some (Conflict 3 6)
-unfolding quad run_from conflict_of
+unfolding quad run_from conflict_of has_green_arrow
 greatest_pair = refl
 
 -- ## A walk counts only where the phase has one
@@ -216,7 +219,7 @@ abbrev pub conflict_of_any : Plan → Heads → Option ℕ
 conflict_of_any plan heads = first (λ p. is_some (first (are_both heads p) (phases plan))) (phases plan)
 
 no_conflict : conflict quad before ≡ None
-unfolding quad run_from conflict conflict_of
+unfolding quad run_from conflict conflict_of has_green_arrow
 no_conflict = refl
 
 would_conflict : conflict_of_any quad before ≡ Some 2
@@ -232,11 +235,11 @@ abbrev pub with_17 : Heads
 with_17 = field quad through (Some (lamps.Phase 17 signals.Green))
 
 is_not_seen : judge quad before with_17 ≡ None
-unfolding quad run_from conflict conflict_of green_to_red
+unfolding quad run_from conflict conflict_of has_green_arrow green_to_red
 is_not_seen = refl
 
 would_be_seen : judge of_17 before with_17 ≡ Some (Conflict 2 17)
-unfolding of_17 quad run_from conflict conflict_of
+unfolding of_17 quad run_from conflict conflict_of has_green_arrow
 would_be_seen = refl
 
 -- ## A red head trips, whatever it showed before
@@ -245,9 +248,60 @@ abbrev pub judge_of_red : Plan → Heads → Option Trip
 judge_of_red plan after = option_or (conflict plan after) (option_map (λ p. GreenToRed p) (first (λ p. is_red (after.vehicle p)) (phases plan)))
 
 stay : judge quad before before ≡ None
-unfolding quad run_from conflict conflict_of green_to_red
+unfolding quad run_from conflict conflict_of has_green_arrow green_to_red
 stay = refl
 
 would_trip : judge_of_red quad before ≡ Some (GreenToRed 1)
-unfolding quad run_from conflict conflict_of
+unfolding quad run_from conflict conflict_of has_green_arrow
 would_trip = refl
+
+-- ## The flashing yellow of an arrow is right of way of its turn
+
+abbrev pub is_lit_arrow_of : Plan → Heads → ℕ → ℕ → Bool
+is_lit_arrow_of plan heads p o =
+    is_arrow plan o && (is_modifier plan o p && (is_green_head (heads.overlap o) || is_flashing_yellow (heads.overlap o)))
+
+abbrev pub has_lit_arrow : Plan → Heads → ℕ → Bool
+has_lit_arrow plan heads p = list_any (is_lit_arrow_of plan heads p) (run_from 1 plan.counts.overlaps)
+
+-- 2 and 6 are Green, and overlap 2 flashes, whose turn is 1
+abbrev pub beside_flashing : Heads
+beside_flashing = field arrowed (lit FlashingYellow through) None
+
+flashes_beside : has_way arrowed beside_flashing 1 ≡ false
+unfolding arrowed quad run_from has_green_arrow
+flashes_beside = refl
+
+would_be_unsafe : has_lit_arrow arrowed beside_flashing 1 ≡ true
+unfolding arrowed quad run_from
+would_be_unsafe = refl
+
+-- ## The green of any overlap is right of way of its modifier phases
+
+abbrev pub has_green_overlap : Plan → Heads → ℕ → Bool
+has_green_overlap plan heads p = list_any (λ o. is_modifier plan o p && is_green_head (heads.overlap o)) (run_from 1 plan.counts.overlaps)
+
+-- overlap 1 of type 1 is green beside 1 and 5, as its modifier phase 6 is not Green
+abbrev pub with_minus_green : Heads
+with_minus_green = field minus_plan (two_in 1 intervals.Green 5 intervals.Green) None
+
+minus_is_green : has_way minus_plan with_minus_green 6 ≡ false
+unfolding minus_plan quad run_from has_green_arrow
+minus_is_green = refl
+
+would_have_way : has_green_overlap minus_plan with_minus_green 6 ≡ true
+unfolding minus_plan quad run_from is_kept_green has_green_modifier
+would_have_way = refl
+
+-- ## Each overlap that includes a phase shows a light
+
+abbrev pub lit_head : Plan → Shown → ℕ → Aspect
+lit_head plan s o = if includes_none plan o then Dark else s.light o
+
+by_phases : overlap_head quad (lit Yellow through) 1 ≡ Green
+unfolding quad run_from is_kept_green
+by_phases = refl
+
+would_be_lit : lit_head quad (lit Yellow through) 1 ≡ Yellow
+unfolding quad
+would_be_lit = refl

@@ -5,7 +5,7 @@ use Rattle.tsb_objects.specs.Checked.{checked_plan}
 use Rattle.tsb_heads.specs.Heads.{Shown}
 use Rattle.tsb_heads.specs.Overlaps.{lasts, some_lasts}
 use Rattle.tsb_heads.specs.Reading.{shown_by}
-use Rattle.tsb_heads.proofs.LastingLemmas.{any-at, any-never}
+use Rattle.tsb_objects.proofs.tsb_types.RunLemmas.{any-at, any-never}
 use Rattle.tsb_heads.proofs.lasting.some_overlap_lasts.Goals as goal
 
 pub loop-number-preserved : goal.loop-number-preserved
@@ -23,8 +23,8 @@ loop-number-preserved c = record {
 
 pub returns-then-lasts : goal.returns-then-lasts
 unfolding some_lasts checked_plan plan_of
-returns-then-lasts c = λ pedestrians tripped.
-    let s : Shown = shown_by c.args.intervals.now pedestrians c.args.ring_1 c.args.ring_2 tripped in
+returns-then-lasts c = λ pedestrians lights tripped.
+    let s : Shown = shown_by c.args.intervals.now pedestrians c.args.ring_1 c.args.ring_2 lights tripped in
     let is = c.find_served-served.ensures s (λ p. refl) (λ r. refl) in
     let by : ℕ → Bool = lasts (checked_plan c.args.plan.now) s in
     sym (any-at by 1 (checked_plan c.args.plan.now).counts.overlaps c.loop-number.number (omega arith) (omega arith)
@@ -32,8 +32,8 @@ returns-then-lasts c = λ pedestrians tripped.
 
 pub returns : goal.returns
 unfolding some_lasts checked_plan plan_of
-returns c = λ pedestrians tripped.
-    let s : Shown = shown_by c.args.intervals.now pedestrians c.args.ring_1 c.args.ring_2 tripped in
+returns c = λ pedestrians lights tripped.
+    let s : Shown = shown_by c.args.intervals.now pedestrians c.args.ring_1 c.args.ring_2 lights tripped in
     let is = c.find_served-served.ensures s (λ p. refl) (λ r. refl) in
     sym (any-never (lasts (checked_plan c.args.plan.now) s) 1 (checked_plan c.args.plan.now).counts.overlaps
     (λ o from below. c.loop-number.invariant.none s is o from (omega (arith, below))))

@@ -1,4 +1,4 @@
-use Rattle.tsb_heads.proofs.OwnLemmas.{displays-own, fields-told, judge-same, lamps-own}
+use Rattle.tsb_heads.proofs.OwnLemmas.{displays-own, fields-told, judge-alone, judge-same, lamps-own, lasting-own}
 use Rattle.tsb_heads.proofs.laws.looks_only_at_its_own.Goals as goal
 
 pub returns-clause-displays : goal.returns-clause-displays
@@ -12,3 +12,9 @@ returns-clause-fields c = fields-told
 
 pub returns-clause-monitors : goal.returns-clause-monitors
 returns-clause-monitors c = judge-same
+
+pub returns-clause-lasting : goal.returns-clause-lasting
+returns-clause-lasting c = lasting-own
+
+pub returns-clause-arrows : goal.returns-clause-arrows
+returns-clause-arrows c = judge-alone

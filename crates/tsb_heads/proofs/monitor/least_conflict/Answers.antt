@@ -7,7 +7,7 @@ use Rattle.tsb_objects.specs.tsb_plan.PlanOf.{plan_of}
 use Rattle.tsb_objects.specs.Checked.{checked_plan}
 use Rattle.tsb_heads.specs.Heads.{Heads}
 use Rattle.tsb_heads.specs.Monitoring.{are_in_conflict, conflict_of}
-use Rattle.tsb_heads.specs.Judging.{HaveWay}
+use Rattle.tsb_heads.specs.Judging.{HaveWayOrArrow}
 use Rattle.tsb_heads.proofs.ConflictLemmas.{after, left-is, others-are, none-without-way, found-pair, found-none}
 use Rattle.tsb_heads.proofs.monitor.least_conflict.Goals as goal
 
@@ -25,7 +25,7 @@ returns-in-Some-first c = λ heads have.
     go heads have r (seen.least r below) (has c.args.way r) refl in
     found-pair (checked_plan c.args.plan.now) heads p c.in-Some-first.q refl seen.from seen.within before (sym pair)
   where
-    go : (heads : Heads) → HaveWay heads c.args.way → (r : ℕ) → has c.loop-p.rest r ≡ false → (w : Bool) → has c.args.way r ≡ w →
+    go : (heads : Heads) → HaveWayOrArrow (checked_plan c.args.plan.now) heads c.args.way → (r : ℕ) → has c.loop-p.rest r ≡ false → (w : Bool) → has c.args.way r ≡ w →
         conflict_of (checked_plan c.args.plan.now) heads r ≡ None
     go heads have r out true e = c.loop-p.invariant.none heads have r e out
     go heads have r out false e = none-without-way (checked_plan c.args.plan.now) heads r (sym (have r) ∙ e)
@@ -58,7 +58,7 @@ loop-p-preserved c =
 pub returns : goal.returns
 returns c = λ heads have. found-none (checked_plan c.args.plan.now) heads (λ r. go heads have r (has c.args.way r) refl)
   where
-    go : (heads : Heads) → HaveWay heads c.args.way → (r : ℕ) → (w : Bool) → has c.args.way r ≡ w →
+    go : (heads : Heads) → HaveWayOrArrow (checked_plan c.args.plan.now) heads c.args.way → (r : ℕ) → (w : Bool) → has c.args.way r ≡ w →
         conflict_of (checked_plan c.args.plan.now) heads r ≡ None
     go heads have r true e = c.loop-p.invariant.none heads have r e (c.in_default.ensures.none refl r)
     go heads have r false e = none-without-way (checked_plan c.args.plan.now) heads r (sym (have r) ∙ e)

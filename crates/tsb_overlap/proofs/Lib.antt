@@ -1,0 +1,12 @@
+pub mod ListLemmas
+pub mod CellLemmas
+pub mod PartLemmas
+pub mod ToldLemmas
+pub mod StateLemmas
+pub mod OwnLemmas
+pub mod SeenLemmas
+pub mod DueLemmas
+pub mod AlongLemmas
+pub mod HolderLemmas
+pub mod LawLemmas
+pub mod Examples
