@@ -100,12 +100,20 @@ call-same tick form v w x y was now =
     ++ begun-same tick codes.CALL_GOES _ _ _ _ vehicle vehicle_was i
     ++ begun-same tick codes.PEDESTRIAN_CALL_COMES _ _ _ _ pedestrian_was pedestrian i
 
+arrow-same : (tick : ℕ) (v w x y : View) → AgreeInAll v w → AgreeInAll x y → events.arrow_events tick v x ≡ events.arrow_events tick w y
+arrow-same tick v w x y was now =
+    λ i. begun-same tick codes.ARROW_BEGINS _ _ _ _ was.overlap_arrows now.overlap_arrows i
+    ++ begun-same tick codes.ARROW_ENDS _ _ _ _ now.overlap_arrows was.overlap_arrows i
+
+lit-agree : (v w : View) → AgreeInAll v w → Agree (events.lit_overlaps v) (events.lit_overlaps w)
+lit-agree v w same = agree-either _ _ _ _ (agree-either _ _ _ _ same.overlap_greens same.overlap_yellows) same.overlap_arrows
+
 overlap-same : (tick : ℕ) (v w x y : View) → AgreeInAll v w → AgreeInAll x y → events.overlap_events tick v x ≡ events.overlap_events tick w y
 overlap-same tick v w x y was now =
     λ i. begun-same tick codes.OVERLAP_GREEN_BEGINS _ _ _ _ was.overlap_greens now.overlap_greens i
+    ++ begun-same tick codes.OVERLAP_TRAIL_BEGINS _ _ _ _ was.overlap_trails now.overlap_trails i
     ++ begun-same tick codes.OVERLAP_YELLOW_BEGINS _ _ _ _ was.overlap_yellows now.overlap_yellows i
-    ++ begun-same tick codes.OVERLAP_RED_BEGINS _ _ _ _ (agree-either _ _ _ _ now.overlap_greens now.overlap_yellows)
-    (agree-either _ _ _ _ was.overlap_greens was.overlap_yellows) i
+    ++ begun-same tick codes.OVERLAP_RED_BEGINS _ _ _ _ (lit-agree _ _ now) (lit-agree _ _ was) i
     ++ begun-same tick codes.OVERLAP_OFF _ _ _ _ was.overlaps_off now.overlaps_off i
 
 vehicles-agree : (form : LogForm) (row : Row) (v w : View) → AgreeInAll v w →
@@ -202,7 +210,7 @@ pub ticks-same : (tick : ℕ) (f g : Found) (v w x y : View) → AgreeInFound f 
 ticks-same tick f g v w x y same was now =
     λ i. green-same tick v w x y was now i ++ ending-same tick f g same i ++ clearing-same tick v w x y was now i
     ++ pedestrian-same tick v w x y was now i ++ crossing-same tick v w x y was now i
-    ++ call-same tick (same.noted i).form v w x y was now i
+    ++ arrow-same tick v w x y was now i ++ call-same tick (same.noted i).form v w x y was now i
     ++ overlap-same tick v w x y was now i ++ vehicle-same tick (same.noted i) (same.row i) v w x y was now i
     ++ alarm-same tick v w x y was now i ++ button-same tick f g same i
     ++ request-same tick (same.noted i).row (same.row i) v w x y was now i ++ preempt-same tick v w x y was now i
@@ -214,7 +222,7 @@ pub others-same : (tick : ℕ) (noted : Noted) (v w x y : View) (s s_too t t_too
     events.other_events tick noted v x s t ≡ events.other_events tick noted w y s_too t_too
 others-same tick noted v w x y s s_too t t_too was now selected_was selected_now =
     λ i. green-same tick v w x y was now i ++ clearing-same tick v w x y was now i
-    ++ pedestrian-same tick v w x y was now i ++ call-same tick noted.form v w x y was now i
+    ++ pedestrian-same tick v w x y was now i ++ arrow-same tick v w x y was now i ++ call-same tick noted.form v w x y was now i
     ++ overlap-same tick v w x y was now i ++ vehicle-same tick noted noted.row v w x y was now i
     ++ alarm-same tick v w x y was now i ++ request-same tick noted.row noted.row v w x y was now i ++ preempt-same tick v w x y was now i ++ exit-same tick v w x y was now i
     ++ pattern-same tick s s_too t t_too selected_was selected_now i ++ cycle-same tick v w x y was now i ++ flash-same tick v w x y was now i

@@ -154,6 +154,9 @@ crossing-span tick v w = elim (cases_Bool (v.crosses && not w.crosses)) [
   | inr h ↦ rw h (no-event tick codes.BARRIER_CROSSED)
 ]
 
+pub arrow-span : (tick : ℕ) (v w : View) → Span tick 32 34 (events.arrow_events tick v w)
+arrow-span tick v w = joined (one-code tick codes.ARROW_BEGINS _) (one-code tick codes.ARROW_ENDS _) refl
+
 pub call-span : (tick : ℕ) (form : LogForm) (v w : View) → Span tick 43 46 (events.call_events tick form v w)
 call-span tick form v w =
     joined (joined (one-code tick codes.CALL_COMES _) (one-code tick codes.CALL_GOES _) refl) (one-code tick codes.PEDESTRIAN_CALL_COMES _)
@@ -161,8 +164,8 @@ call-span tick form v w =
 
 pub overlap-span : (tick : ℕ) (v w : View) → Span tick 61 66 (events.overlap_events tick v w)
 overlap-span tick v w =
-    joined (joined (joined (one-code tick codes.OVERLAP_GREEN_BEGINS _) (one-code tick codes.OVERLAP_YELLOW_BEGINS _) refl) (one-code tick
-    codes.OVERLAP_RED_BEGINS _) refl) (one-code tick codes.OVERLAP_OFF _) refl
+    joined (joined (joined (joined (one-code tick codes.OVERLAP_GREEN_BEGINS _) (one-code tick codes.OVERLAP_TRAIL_BEGINS _) refl)
+    (one-code tick codes.OVERLAP_YELLOW_BEGINS _) refl) (one-code tick codes.OVERLAP_RED_BEGINS _) refl) (one-code tick codes.OVERLAP_OFF _) refl
 
 pub vehicle-span : (tick : ℕ) (noted : Noted) (row : Row) (v w : View) → Span tick 81 83 (events.vehicle_events tick noted row v w)
 vehicle-span tick noted row v w = joined (code-of-detectors tick codes.VEHICLE_OFF _) (code-of-detectors tick codes.VEHICLE_ON _) refl
@@ -275,16 +278,16 @@ zero-span tick f v w = elim (cases_Bool f.zero) [
 
 ticks-span : (tick : ℕ) (f : Found) (v w : View) → Span tick 0 174 (events.tick_events tick f v w)
 ticks-span tick f v w =
-    joined (joined (joined (joined (joined (joined (joined (joined (joined (joined (joined (joined (joined (joined (joined (joined (green-span tick v w)
-    (ending-span tick f) refl) (clearing-span tick v w) refl) (pedestrian-span tick v w) refl) (crossing-span tick v w) refl) (call-span
+    joined (joined (joined (joined (joined (joined (joined (joined (joined (joined (joined (joined (joined (joined (joined (joined (joined (green-span tick v w)
+    (ending-span tick f) refl) (clearing-span tick v w) refl) (pedestrian-span tick v w) refl) (crossing-span tick v w) refl) (arrow-span tick v w) refl) (call-span
     tick f.noted.form v w) refl) (overlap-span tick v w) refl) (vehicle-span tick f.noted f.row v w) refl) (alarm-span tick v w) refl)
     (button-span tick f) refl) (request-span tick f.noted.row f.row v w) refl) (preempt-span tick v w) refl) (one-code tick codes.PRESENCE_EXCEEDED _) refl) (one-code tick codes.EXIT_BEGINS _) refl)
     (zero-span tick f v w) refl) (one-code tick codes.YIELD_POINT _) refl) (flash-span tick v w) refl
 
 others-span : (tick : ℕ) (noted : Noted) (v w : View) (s t : Selected) → Span tick 0 174 (events.other_events tick noted v w s t)
 others-span tick noted v w s t =
-    joined (joined (joined (joined (joined (joined (joined (joined (joined (joined (joined (joined (green-span tick v w) (clearing-span tick v w) refl)
-    (pedestrian-span tick v w) refl) (call-span tick noted.form v w) refl) (overlap-span tick v w) refl) (vehicle-span tick noted noted.row v w)
+    joined (joined (joined (joined (joined (joined (joined (joined (joined (joined (joined (joined (joined (green-span tick v w) (clearing-span tick v w) refl)
+    (pedestrian-span tick v w) refl) (arrow-span tick v w) refl) (call-span tick noted.form v w) refl) (overlap-span tick v w) refl) (vehicle-span tick noted noted.row v w)
     refl) (alarm-span tick v w) refl) (request-span tick noted.row noted.row v w) refl) (preempt-span tick v w) refl) (one-code tick codes.EXIT_BEGINS _) refl) (pattern-span tick s t) refl) (cycle-span tick v w) refl) (flash-span tick v w) refl
 
 pub ticks-in-order : (tick : ℕ) (f : Found) (v w : View) → AreInOrder (events.tick_events tick f v w)

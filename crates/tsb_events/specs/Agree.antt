@@ -21,7 +21,9 @@ pub record AgreeInAll (v w : View) : Type 0 where
   pub recalls : Agree v.recalls w.recalls
   pub pedestrian_recalls : Agree v.pedestrian_recalls w.pedestrian_recalls
   pub overlap_greens : Agree v.overlap_greens w.overlap_greens
+  pub overlap_trails : Agree v.overlap_trails w.overlap_trails
   pub overlap_yellows : Agree v.overlap_yellows w.overlap_yellows
+  pub overlap_arrows : Agree v.overlap_arrows w.overlap_arrows
   pub overlaps_off : Agree v.overlaps_off w.overlaps_off
   pub outputs : AgreeOnDetectors v.outputs w.outputs
   pub alarms : AgreeOnDetectors v.alarms w.alarms

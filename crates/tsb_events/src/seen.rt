@@ -32,9 +32,13 @@ pub struct Seen {
     pub pedestrian_recalls: NumberSet,
     /// Overlaps whose head is green.
     pub overlap_greens: NumberSet,
+    /// Overlaps that are green after their phases.
+    pub overlap_trails: NumberSet,
     /// Overlaps whose head is yellow.
     pub overlap_yellows: NumberSet,
-    /// Overlaps whose head is neither, and of whose included phases none is in service.
+    /// Overlaps whose head flashes yellow.
+    pub overlap_arrows: NumberSet,
+    /// Overlaps whose head is none of these, where no phase that they include is in service, nor the turn of an arrow.
     pub overlaps_off: NumberSet,
     /// Vehicle detectors whose output is on, after delay and extension.
     pub outputs: DetectorSet,

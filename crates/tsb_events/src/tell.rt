@@ -4,7 +4,7 @@ ghost use Rattle.arrayvec.specs.ArrayVec.{array_vec_len};
 ghost use Rattle.tsb_step.specs.tsb_types.Sets.{has_detector, has_number};
 ghost use Rattle.tsb_step.specs.tsb_types.Events.{begins, either, told, told_detectors};
 ghost use Rattle.tsb_types.specs.declared.limits.TheConstants.{VEHICLE_DETECTORS};
-ghost use Rattle.tsb_step.specs.Events.{alarm_events, but_recalls, button_events, call_events, clearing_events, crossing_events, cycle_events, ending_events, exit_events, flash_events, green_events, leaves_dwell, once_green, other_events, overlap_events, pedestrian_events, pedestrian_calls_in, preempt_events, presence_events, request_events, requests, serving, tick_events, vehicle_calls_in, vehicle_events, vehicles_in, zero_events};
+ghost use Rattle.tsb_step.specs.Events.{alarm_events, arrow_events, but_recalls, button_events, call_events, clearing_events, crossing_events, cycle_events, ending_events, exit_events, flash_events, green_events, leaves_dwell, once_green, other_events, overlap_events, pedestrian_events, pedestrian_calls_in, preempt_events, presence_events, request_events, requests, serving, tick_events, vehicle_calls_in, vehicle_events, vehicles_in, zero_events};
 ghost use Rattle.tsb_events.specs.declared.tell.TheConstants.{EVENTS};
 ghost use Rattle.tsb_events.specs.Seen.{found_of, selected_of, view_of};
 
@@ -13,21 +13,21 @@ use crate::seen::{Change, Found, Seen};
 use arrayvec::ArrayVec;
 use tsb_step::log_form::{LogForm, Noted};
 use tsb_types::event::{
-    ALARM_COMES, ALARM_GOES, BARRIER_CROSSED, CALL_COMES, CALL_GOES, CLEARANCE_BEGINS,
-    CONFLICT_BEGINS, CYCLE_STATE_CHANGES, CYCLE_ZERO, DONT_WALK_BEGINS, DWELL_BEGINS, EXIT_BEGINS,
-    FLASH, FLASH_CHANGES, FORCE_OFF, GAP_OUT, GREEN_BEGINS, GREEN_ENDS, MAX_OUT, MINIMUM_COMPLETE,
-    NO_FLASH, OVERLAP_GREEN_BEGINS, OVERLAP_OFF, OVERLAP_RED_BEGINS, OVERLAP_YELLOW_BEGINS,
-    PEDESTRIAN_CALL_COMES, PEDESTRIAN_OFF, PEDESTRIAN_ON, PHASE_OFF, PHASE_ON, PREEMPT_ENTERS,
-    PREEMPT_OFF, PREEMPT_ON, PRESENCE_EXCEEDED, RED_CLEARANCE_BEGINS, RED_CLEARANCE_ENDS,
-    TRACK_BEGINS, VEHICLE_OFF, VEHICLE_ON, WALK_BEGINS, YELLOW_BEGINS, YELLOW_ENDS, YIELD_POINT,
-    begun, joined, tell, tell_detectors,
+    ALARM_COMES, ALARM_GOES, ARROW_BEGINS, ARROW_ENDS, BARRIER_CROSSED, CALL_COMES, CALL_GOES,
+    CLEARANCE_BEGINS, CONFLICT_BEGINS, CYCLE_STATE_CHANGES, CYCLE_ZERO, DONT_WALK_BEGINS,
+    DWELL_BEGINS, EXIT_BEGINS, FLASH, FLASH_CHANGES, FORCE_OFF, GAP_OUT, GREEN_BEGINS, GREEN_ENDS,
+    MAX_OUT, MINIMUM_COMPLETE, NO_FLASH, OVERLAP_GREEN_BEGINS, OVERLAP_OFF, OVERLAP_RED_BEGINS,
+    OVERLAP_TRAIL_BEGINS, OVERLAP_YELLOW_BEGINS, PEDESTRIAN_CALL_COMES, PEDESTRIAN_OFF,
+    PEDESTRIAN_ON, PHASE_OFF, PHASE_ON, PREEMPT_ENTERS, PREEMPT_OFF, PREEMPT_ON, PRESENCE_EXCEEDED,
+    RED_CLEARANCE_BEGINS, RED_CLEARANCE_ENDS, TRACK_BEGINS, VEHICLE_OFF, VEHICLE_ON, WALK_BEGINS,
+    YELLOW_BEGINS, YELLOW_ENDS, YIELD_POINT, begun, joined, tell, tell_detectors,
 };
 use tsb_types::limits::VEHICLE_DETECTORS;
 use tsb_types::{DetectorSet, Event, NumberSet, Row};
 
-/// The most events of one input: 16 of each of 33 codes, four more, and one for each vehicle detector of each of 4
+/// The most events of one input: 16 of each of 36 codes, four more, and one for each vehicle detector of each of 4
 /// codes.
-pub const EVENTS: usize = 16 * 33 + 4 + 4 * VEHICLE_DETECTORS as usize;
+pub const EVENTS: usize = 16 * 36 + 4 + 4 * VEHICLE_DETECTORS as usize;
 
 /// The events of one input.
 pub type Events = ArrayVec<Event, EVENTS>;
@@ -43,6 +43,7 @@ pub fn tick_events(events: &mut Events, tick: u32, was: &Seen, now: &Seen, found
     tell_clearings(events, tick, was, now);
     tell_pedestrians(events, tick, was, now);
     tell_crossing(events, tick, was, now);
+    tell_arrows(events, tick, was, now);
     tell_calls(events, tick, &found.noted.form, was, now);
     tell_overlaps(events, tick, was, now);
     tell_vehicles(events, tick, &found.noted, &found.row, was, now);
@@ -73,6 +74,7 @@ pub fn other_events(
     tell_greens(events, tick, was, now);
     tell_clearings(events, tick, was, now);
     tell_pedestrians(events, tick, was, now);
+    tell_arrows(events, tick, was, now);
     tell_calls(events, tick, &noted.form, was, now);
     tell_overlaps(events, tick, was, now);
     tell_vehicles(events, tick, noted, &noted.row, was, now);
@@ -256,20 +258,51 @@ fn tell_calls(events: &mut Events, tick: u32, form: &LogForm, was: &Seen, now: &
     );
 }
 
+/// Adds the arrows that begin to flash, and those that end it.
+fn tell_arrows(events: &mut Events, tick: u32, was: &Seen, now: &Seen)
+    requires { array_vec_len events.old + 32 ≤ EVENTS }
+    ensures told { events.new.items ≡ events.old.items ++ arrow_events tick (view_of was.now) (view_of now.now) }
+    ensures few { array_vec_len events.new ≤ array_vec_len events.old + 32 }
+{
+    tell_begun(
+        events,
+        tick,
+        ARROW_BEGINS,
+        was.overlap_arrows,
+        now.overlap_arrows,
+    );
+    tell_begun(
+        events,
+        tick,
+        ARROW_ENDS,
+        now.overlap_arrows,
+        was.overlap_arrows,
+    );
+}
+
 /// Adds what overlaps begin to show, and those that go off.
 fn tell_overlaps(events: &mut Events, tick: u32, was: &Seen, now: &Seen)
-    requires { array_vec_len events.old + 64 ≤ EVENTS }
+    requires { array_vec_len events.old + 80 ≤ EVENTS }
     ensures told { events.new.items ≡ events.old.items ++ overlap_events tick (view_of was.now) (view_of now.now) }
-    ensures few { array_vec_len events.new ≤ array_vec_len events.old + 64 }
+    ensures few { array_vec_len events.new ≤ array_vec_len events.old + 80 }
 {
-    let lit_was = joined(was.overlap_greens, was.overlap_yellows);
-    let lit = joined(now.overlap_greens, now.overlap_yellows);
+    let steady_was = joined(was.overlap_greens, was.overlap_yellows);
+    let lit_was = joined(steady_was, was.overlap_arrows);
+    let steady = joined(now.overlap_greens, now.overlap_yellows);
+    let lit = joined(steady, now.overlap_arrows);
     tell_begun(
         events,
         tick,
         OVERLAP_GREEN_BEGINS,
         was.overlap_greens,
         now.overlap_greens,
+    );
+    tell_begun(
+        events,
+        tick,
+        OVERLAP_TRAIL_BEGINS,
+        was.overlap_trails,
+        now.overlap_trails,
     );
     tell_begun(
         events,

@@ -36,10 +36,10 @@ next p = record { phase = p; is_reverted = true; red_revert = 0 }
 
 -- a green of 9 ticks of 50, and a red clearance that has 7 left
 abbrev short : ℕ → Served
-short q = record { phase = q; is_green = true; is_over = false; left = 0; lack = Some (lacks.Initial 41) }
+short q = record { phase = q; is_green = true; is_over = false; left = 0; trail = None; lack = Some (lacks.Initial 41) }
 
 abbrev clearing : ℕ → Served
-clearing q = record { phase = q; is_green = false; is_over = false; left = 7; lack = None }
+clearing q = record { phase = q; is_green = false; is_over = false; left = 7; trail = None; lack = None }
 
 abbrev green : ℕ → RingFound
 green q = record { served = Some (short q); next = None }
@@ -71,6 +71,19 @@ waits_for_6 = refl
 due : wait_by quad (waiting 3) (going_to 3) (going_to 8) crossing ≡ waits.Due
 unfolding quad
 due = refl
+
+-- 6 has cleared, and overlap 3 holds it
+abbrev held : ℕ → Served
+held q = record (clearing q) { left = 0; trail = Some (3, 55) }
+
+waits_for_3 : wait_by quad (waiting 3) (going_to 3) (record { served = Some (held 6); next = Some (next 8) }) crossing ≡ waits.Trails 6 3 55
+unfolding quad
+waits_for_3 = refl
+
+-- so does a phase of the same ring
+waits_beside_3 : wait_by quad (waiting 5) (record { served = Some (held 6); next = Some (next 5) }) (green 1) around ≡ waits.Trails 6 3 55
+unfolding quad
+waits_beside_3 = refl
 
 -- ## A mistake: the other ring is left out
 
@@ -117,7 +130,7 @@ would_have_none = refl
 
 -- phase 1 has been Green for 59 ticks, and no other waits
 abbrev resting_1 : PhaseFound
-resting_1 = record { phase = 1; times = record green_of_49 { timer = On 59; passage = On 59; conflict = Off }; found = free }
+resting_1 = record { phase = 1; times = record green_of_49 { timer = On 59; passage = On 59; conflict = Off }; found = free; holder = None }
 
 rests : part_by quad resting_1 ≡ parts.GreenRest
 unfolding quad initial gap reduction_timer cars_waiting
@@ -138,6 +151,7 @@ driven_3 = record {
   phase = 3;
   times = record green_of_49 { timer = On 110; passage = Off; conflict = On 30 };
   found = record free { runs = Some 1 };
+  holder = None;
 }
 
 no_maximum : maximum_by quad driven_3 ≡ None

@@ -1,5 +1,5 @@
 -- What is found of a ring is its status.
-use Rattle.std.proofs.Common.{◌≡◌, ℕ, Some, None, refl, sym, subst}
+use Rattle.std.proofs.Common.{◌≡◌, ℕ, Option, Some, None, refl, sym, subst}
 use Rattle.tsb_phase.specs.declared.told.PhaseTimes.{PhaseTimes}
 use Rattle.tsb_phase.specs.Green.{reduction_timer, cars_waiting}
 use Rattle.tsb_phase.specs.Promises.{IsTold}
@@ -14,10 +14,10 @@ use Rattle.tsb_status.specs.RingFound.{RingsAreFound}
 use Rattle.tsb_status.specs.TimesFound.{IsGreenFound}
 
 -- with phase q in service
-serving-found : (s : State) (r : Ring) (q : ℕ) (x : PhaseTimes) (found : GreenFound) → IsTold (s.phases q) x → IsGreenFound s q found →
-    ring_status_of (ring_by s.plan (s.rings.commitment r) (Some (record { phase = q; times = x; found = found })) (force_off_of s (Some q))) ≡ ring_with s r (Some q)
+serving-found : (s : State) (r : Ring) (q : ℕ) (x : PhaseTimes) (found : GreenFound) (held : Option (ℕ × ℕ)) → IsTold (s.phases q) x → IsGreenFound s q found →
+    ring_status_of (ring_by s.plan (s.rings.commitment r) (Some (record { phase = q; times = x; found = found; holder = held })) (force_off_of s (Some q))) ≡ ring_with s r (Some q)
 unfolding phases_again reduction_timer cars_waiting
-serving-found s r q x found h g =
+serving-found s r q x found held h g =
     rw (
       g.count,
       g.runs,
@@ -39,5 +39,5 @@ rings-found s r None None h = refl
 rings-found s r None (Some x) h = absurd h
 rings-found s r (Some q) None h = absurd h
 rings-found s r (Some q) (Some x) h =
-    subst (λ p. ring_status_of (ring_by s.plan (s.rings.commitment r) (Some (record { phase = p; times = x.times; found = x.found })) (force_off_of s (Some q)))
-    ≡ ring_with s r (Some q)) (sym h.phase) (serving-found s r q x.times x.found h.told h.found)
+    subst (λ p. ring_status_of (ring_by s.plan (s.rings.commitment r) (Some (record { phase = p; times = x.times; found = x.found; holder = x.holder })) (force_off_of s (Some q)))
+    ≡ ring_with s r (Some q)) (sym h.phase) (serving-found s r q x.times x.found x.holder h.told h.found)

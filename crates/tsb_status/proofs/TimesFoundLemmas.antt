@@ -8,7 +8,7 @@ use Rattle.tsb_phase.specs.Green.{reduction_timer, cars_waiting}
 use Rattle.tsb_phase.specs.Promises.{IsTold}
 use Rattle.tsb_phase.specs.Ready.{is_over, red_revert_passed}
 use Rattle.tsb_step.specs.State.{State}
-use Rattle.tsb_step.specs.Waits.{phases_again, lack, part_lack, is_over_next, is_reverted_next}
+use Rattle.tsb_step.specs.Waits.{phases_again, lack, part_lack, is_cleared_next, is_reverted_next}
 use Rattle.tsb_status.specs.declared.times.GreenFound.{GreenFound}
 use Rattle.tsb_status.specs.Times.{phase_by, read_by, given_by}
 use Rattle.tsb_status.specs.TimesFound.{IsGreenFound}
@@ -46,7 +46,7 @@ reverted-told s p x y h =
     subst (λ z. red_revert_passed s.plan p (read_by x) ≡ red_revert_passed s.plan p (as_read z)) (is-told y x h) refl
 
 pub next-found : (s : State) (p : ℕ) (x : PhaseTimes) → is_phase p ≡ true → IsTold (s.phases p) x →
-    (is_over s.plan p (read_by x) ≡ is_over_next s p) × (red_revert_passed s.plan p (read_by x) ≡ is_reverted_next s p)
+    (is_over s.plan p (read_by x) ≡ is_cleared_next s p) × (red_revert_passed s.plan p (read_by x) ≡ is_reverted_next s p)
 next-found s p x phase h = (
   over-told s p x (s.phases p) h ∙ rw phase refl,
   reverted-told s p x (s.phases p) h ∙ rw phase refl,

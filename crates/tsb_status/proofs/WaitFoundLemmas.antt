@@ -10,14 +10,14 @@ use Rattle.tsb_step.specs.declared.waits.Wait.{Wait}
 use Rattle.tsb_step.specs.declared.waits.Wait.TheVariants as waits
 use Rattle.tsb_step.specs.State.{State, interval}
 use Rattle.tsb_step.specs.Tick.{omitted}
-use Rattle.tsb_step.specs.Waits.{first_wait, until_over, red_revert_left, served, is_over_next, is_reverted_next, not_over, not_reverted, not_concurrent, lacking, in_the_way, starts_beside, revert_wait, committed_wait, omit_wait, preempt_wait, crossing_wait, not_green, keeper, barrier_wait, green_wait, conflicting, free_wait, is_committed, wait}
+use Rattle.tsb_step.specs.Waits.{first_wait, until_over, red_revert_left, served, holder, held_left, held_wait, clearing_wait, is_cleared_next, is_over_next, is_reverted_next, not_over, not_reverted, not_concurrent, lacking, in_the_way, starts_beside, revert_wait, committed_wait, omit_wait, preempt_wait, crossing_wait, not_green, keeper, barrier_wait, green_wait, conflicting, free_wait, is_committed, wait}
 use Rattle.tsb_status.specs.declared.found.Circumstances.{Circumstances}
 use Rattle.tsb_status.specs.declared.found.Next.{Next}
 use Rattle.tsb_status.specs.declared.found.RingFound.{RingFound}
 use Rattle.tsb_status.specs.declared.found.Served.{Served}
 use Rattle.tsb_status.specs.declared.found.Service.{Service}
 use Rattle.tsb_status.specs.declared.found.Waiting.{Waiting}
-use Rattle.tsb_status.specs.WaitBy.{number_by, next_by, not_over_by, not_green_by, lacking_by, in_the_way_of, in_the_way_by, beside_by, clears_or, reverts_or, across_or, beside_or, committed_by, unwanted_of, preempted_or, next_or, keeper_by, green_by, conflict_by, wait_or, conflict_or, side_by, free_by, wait_by}
+use Rattle.tsb_status.specs.WaitBy.{number_by, next_by, not_over_by, not_green_by, lacking_by, in_the_way_of, in_the_way_by, beside_by, trailing_or, clears_or, reverts_or, across_or, beside_or, committed_by, unwanted_of, preempted_or, next_or, keeper_by, green_by, conflict_by, wait_or, conflict_or, side_by, free_by, wait_by}
 use Rattle.tsb_status.specs.WaitFound.{IsWaiting, IsNext, IsServed, IsServedPhase, IsRing, IsInService, IsAround}
 
 -- ## What is found of phases
@@ -102,22 +102,34 @@ green-same s None (Some x) h = absurd h
 green-same s (Some q) None h = absurd h
 green-same s (Some q) (Some x) h = rw (h.green, h.lack, h.phase) refl
 
+-- the wait for a phase that clears, or for the overlap that holds it
+clearing-same : (s : State) (wait : ℕ → ℕ → Wait) (q : ℕ) (x : Served) → IsServedPhase s q x →
+    clearing_wait s wait q ≡ trailing_or x.phase x.trail (wait x.phase x.left)
+clearing-same s wait q x h = rw (h.phase, h.left, h.trail) (go (is_cleared_next s q) (holder s q))
+  where
+    go : (b : Bool) (o : Option ℕ) →
+        (if b then held_wait s wait q o else wait q (until_over s q))
+        ≡ trailing_or q (if b then option_map (λ n. (n, held_left s n)) o else None) (wait q (until_over s q))
+    go false o = refl
+    go true None = refl
+    go true (Some n) = refl
+
 -- ## The steps of the list: each, or else what follows
 
 module _ (s : State) (rest : Option Wait) (later : Wait) (same : rest ≡ Some later) where
   clears-found : (o : Option ℕ) (x : Option Served) → IsServed s o x →
-      first_wait (option_map (λ q. waits.Clears q (until_over s q)) o) rest ≡ Some (clears_or x later)
+      first_wait (option_map (clearing_wait s waits.Clears) o) rest ≡ Some (clears_or x later)
   clears-found None None h = same
   clears-found None (Some x) h = absurd h
   clears-found (Some q) None h = absurd h
-  clears-found (Some q) (Some x) h = rw (h.left, h.phase) refl
+  clears-found (Some q) (Some x) h = ap Some (clearing-same s waits.Clears q x h)
 
   across-found : (o : Option ℕ) (x : Option Served) → IsServed s o x →
-      first_wait (option_map (λ q. waits.Across q (until_over s q)) o) rest ≡ Some (across_or x later)
+      first_wait (option_map (clearing_wait s waits.Across) o) rest ≡ Some (across_or x later)
   across-found None None h = same
   across-found None (Some x) h = absurd h
   across-found (Some q) None h = absurd h
-  across-found (Some q) (Some x) h = rw (h.left, h.phase) refl
+  across-found (Some q) (Some x) h = ap Some (clearing-same s waits.Across q x h)
 
   with-found : (o : Option ℕ) (x : Option Next) → IsNext s o x →
       first_wait (option_map (λ c. waits.Beside c (red_revert_left s c)) o) rest ≡ Some (beside_or x later)

@@ -1,5 +1,5 @@
 -- The status that a plain value means.
-use Rattle.std.specs.Prelude.{ℕ, ◌-◌, None, get_or}
+use Rattle.std.specs.Prelude.{ℕ, ◌-◌, None, option_map, get_or}
 use Rattle.tsb_step.specs.tsb_types.Sets.{has_detector, has_number}
 use Rattle.tsb_step.specs.tsb_ring.Rings.{Ring, Ring1, Ring2}
 use Rattle.tsb_step.specs.declared.status.RingPart.TheVariants as parts
@@ -64,6 +64,7 @@ status_of x = record {
   overlap_reds = has_number x.overlap_reds;
   overlap_yellows = has_number x.overlap_yellows;
   overlap_greens = has_number x.overlap_greens;
+  overlap_arrows = option_map has_number x.overlap_arrows;
   active = has_detector x.active;
   alarms = has_detector x.alarms;
   preempt = λ n. get_or x.preempts (n - 1) preempt_states.NotActive;

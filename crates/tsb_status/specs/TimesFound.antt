@@ -7,7 +7,7 @@ use Rattle.tsb_phase.specs.declared.told.PhaseTimes.{PhaseTimes}
 use Rattle.tsb_phase.specs.Promises.{IsTold}
 use Rattle.tsb_step.specs.State.{State}
 use Rattle.tsb_step.specs.Tick.{runs, hold}
-use Rattle.tsb_step.specs.Waits.{service_number, is_unwanted, lack, part_lack, is_over_next, is_reverted_next}
+use Rattle.tsb_step.specs.Waits.{service_number, is_unwanted, lack, part_lack, is_cleared_next, is_reverted_next}
 use Rattle.tsb_status.specs.declared.times.GreenFound.{GreenFound}
 use Rattle.tsb_status.specs.Times.{phase_by, read_by, given_by}
 
@@ -27,4 +27,4 @@ LacksAreFound = (s : State) (p : ℕ) (found : GreenFound) (x : PhaseTimes) → 
 -- So is a phase over in the next tick, or its red revert has passed, of phases 1 to 16.
 abbrev pub NextTicksAreFound : Type 0
 NextTicksAreFound = (s : State) (p : ℕ) (x : PhaseTimes) → is_phase p ≡ true → IsTold (s.phases p) x →
-    (is_over s.plan p (read_by x) ≡ is_over_next s p) × (red_revert_passed s.plan p (read_by x) ≡ is_reverted_next s p)
+    (is_over s.plan p (read_by x) ≡ is_cleared_next s p) × (red_revert_passed s.plan p (read_by x) ≡ is_reverted_next s p)

@@ -1,5 +1,5 @@
 -- What waits are found from, of phases as they are given.
-use Rattle.std.specs.Prelude.{ℕ, Bool}
+use Rattle.std.specs.Prelude.{ℕ, Bool, ◌&&◌, if◌then◌else◌, None, is_none}
 use Rattle.tsb_step.specs.tsb_types.Intervals.{is_green}
 use Rattle.tsb_step.specs.tsb_plan.Plan.{Plan, red_revert}
 use Rattle.tsb_phase.specs.declared.told.PhaseTimes.{PhaseTimes}
@@ -16,8 +16,9 @@ abbrev pub served_as : Plan → PhaseFound → Served
 served_as plan q = record {
   phase = q.phase;
   is_green = is_green q.times.interval;
-  is_over = is_over plan q.phase (read_by q.times);
+  is_over = is_over plan q.phase (read_by q.times) && is_none q.holder;
   left = clearance_left_in plan q.phase q.times.timer q.times.interval;
+  trail = if is_over plan q.phase (read_by q.times) then q.holder else None;
   lack = part_lack plan (given_by q.found q.times) q.phase (phase_by q.times) q.times.pedestrian;
 }
 

@@ -55,19 +55,32 @@ beside_by crosses (Some x) = if crosses && not x.is_reverted then Some x else No
 
 -- ## The list
 
+-- the overlap that holds a phase, or else its own clearance
+abbrev pub trailing_or : ℕ → Option (ℕ × ℕ) → Wait → Wait
+trailing_or q None w = w
+trailing_or q (Some x) w = waits.Trails q x.0 x.1
+
+-- a phase that clears
+abbrev pub clearing_by : Served → Wait
+clearing_by x = trailing_or x.phase x.trail (waits.Clears x.phase x.left)
+
 -- a phase that clears, or else what follows
 abbrev pub clears_or : Option Served → Wait → Wait
 clears_or None w = w
-clears_or (Some x) w = waits.Clears x.phase x.left
+clears_or (Some x) w = clearing_by x
 
 -- its red revert
 abbrev pub reverts_or : Waiting → Wait → Wait
 reverts_or p w = if p.is_reverted then w else waits.RedRevert p.red_revert
 
+-- a phase of the other ring that does not make way
+abbrev pub across_by : Served → Wait
+across_by x = trailing_or x.phase x.trail (waits.Across x.phase x.left)
+
 -- a phase of the other ring
 abbrev pub across_or : Option Served → Wait → Wait
 across_or None w = w
-across_or (Some x) w = waits.Across x.phase x.left
+across_or (Some x) w = across_by x
 
 -- the phase that starts with it
 abbrev pub beside_or : Option Next → Wait → Wait

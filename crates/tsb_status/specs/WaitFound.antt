@@ -1,5 +1,5 @@
 -- What a wait is found from, as a state has it, and that the wait is then the one of that state.
-use Rattle.std.specs.Prelude.{◌≡◌, ℕ, Option, Some, None, is_some}
+use Rattle.std.specs.Prelude.{◌≡◌, ℕ, if◌then◌else◌, Option, Some, None, is_some}
 use Rattle.tsb_step.specs.tsb_types.Intervals.{is_green}
 use Rattle.tsb_step.specs.tsb_types.Sets.{has}
 use Rattle.tsb_step.specs.tsb_preempt.Service as preempts
@@ -7,13 +7,14 @@ use Rattle.tsb_step.specs.tsb_preempt.Service.{stage_phases}
 use Rattle.tsb_step.specs.tsb_ring.Rings.{Ring, other, own_ring}
 use Rattle.tsb_step.specs.State.{State, interval}
 use Rattle.tsb_step.specs.Tick.{omitted}
-use Rattle.tsb_step.specs.Waits.{until_over, red_revert_left, lack, served, is_over_next, is_reverted_next, wait}
+use Rattle.tsb_step.specs.Waits.{until_over, red_revert_left, lack, served, is_cleared_next, is_over_next, is_reverted_next, wait}
 use Rattle.tsb_status.specs.declared.found.Circumstances.{Circumstances}
 use Rattle.tsb_status.specs.declared.found.Next.{Next}
 use Rattle.tsb_status.specs.declared.found.RingFound.{RingFound}
 use Rattle.tsb_status.specs.declared.found.Served.{Served}
 use Rattle.tsb_status.specs.declared.found.Service.{Service}
 use Rattle.tsb_status.specs.declared.found.Waiting.{Waiting}
+use Rattle.tsb_status.specs.RingFound.{holder_of}
 use Rattle.tsb_status.specs.WaitBy.{wait_by}
 
 -- a phase that waits
@@ -35,12 +36,17 @@ IsNext s None (Some x) = ⊥
 IsNext s (Some c) None = ⊥
 IsNext s (Some c) (Some x) = IsNextPhase s c x
 
+-- the overlap that holds a phase whose own clearance is done in the next tick, and for how long, at most
+abbrev pub trail_of : State → ℕ → Option (ℕ × ℕ)
+trail_of s q = if is_cleared_next s q then holder_of s q else None
+
 -- a phase in service
 pub record IsServedPhase (s : State) (q : ℕ) (x : Served) : Type 0 where
   pub phase : x.phase ≡ q
   pub green : x.is_green ≡ is_green (interval s q)
   pub over : x.is_over ≡ is_over_next s q
   pub left : x.left ≡ until_over s q
+  pub trail : x.trail ≡ trail_of s q
   pub lack : x.lack ≡ lack s q
 
 -- if there is one

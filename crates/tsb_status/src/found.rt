@@ -1,7 +1,7 @@
 //! What a wait is found from. Times are what is left, in tenths of a second; what a phase is "in the next tick" it is
 //! there whatever inputs are on in it.
 
-use tsb_objects::{Phase, PhaseSet, Preempt, Side};
+use tsb_objects::{Overlap, Phase, PhaseSet, Preempt, Side};
 use tsb_step::Lack;
 
 /// A phase that waits.
@@ -39,6 +39,8 @@ pub struct Served {
     pub is_over: bool,
     /// What is left of its yellow change and red clearance.
     pub left: u32,
+    /// The overlap that holds it, where its own clearance is done in the next tick, and for how long, at most.
+    pub trail: Option<(Overlap, u32)>,
     /// What its green lacked in the last tick, where it is Green.
     pub lack: Option<Lack>,
 }

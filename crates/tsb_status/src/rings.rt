@@ -9,7 +9,7 @@ use crate::status::RingStatus;
 use crate::times::{
     GreenFound, clearance_left, gap_left, gap_of, has_gapped, initial_left, left, walk_left,
 };
-use tsb_objects::{Checked, Interval, PedestrianInterval, Phase};
+use tsb_objects::{Checked, Interval, Overlap, PedestrianInterval, Phase};
 use tsb_phase::{PhaseTimes, Phases};
 use tsb_step::RingPart;
 
@@ -22,6 +22,8 @@ pub struct PhaseFound {
     pub times: PhaseTimes,
     /// What its green depends on beside.
     pub found: GreenFound,
+    /// The least overlap that holds it in clearance in the next tick, and how long it does so still, at most.
+    pub holder: Option<(Overlap, u32)>,
 }
 
 /// A value where a test holds.

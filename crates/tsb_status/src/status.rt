@@ -68,6 +68,8 @@ pub struct Status {
     pub overlap_yellows: NumberSet,
     /// `overlapStatusGroupGreens`.
     pub overlap_greens: NumberSet,
+    /// Overlaps whose head flashes yellow; `None` where the plan has no arrow.
+    pub overlap_arrows: Option<NumberSet>,
     /// `vehicleDetectorStatusGroupActive`.
     pub active: DetectorSet,
     /// `vehicleDetectorStatusGroupAlarms`.

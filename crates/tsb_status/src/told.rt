@@ -22,8 +22,13 @@ fn served_phase(plan: &Checked, q: &PhaseFound) -> Served
     Served {
         phase: q.phase,
         is_green: matches!(q.times.interval, Interval::Green),
-        is_over: is_over(plan, q.phase, &q.times),
+        is_over: is_over(plan, q.phase, &q.times) && q.holder.is_none(),
         left: until_over(plan, q.phase, &q.times),
+        trail: if is_over(plan, q.phase, &q.times) {
+            q.holder
+        } else {
+            None
+        },
         lack: lack(plan, q.phase, &q.found, &q.times),
     }
 }

@@ -4,7 +4,7 @@ ghost use Rattle.tsb_step.specs.tsb_plan.Plan.{is_concurrent};
 ghost use Rattle.tsb_step.specs.tsb_types.Lists.{or_else};
 ghost use Rattle.tsb_step.specs.Waits.{not_concurrent};
 ghost use Rattle.tsb_objects.specs.Checked.{checked_plan};
-ghost use Rattle.tsb_status.specs.WaitBy.{beside_by, committed_by, conflict_by, free_by, green_by, in_the_way_by, keeper_by, lacking_by, not_green_by, not_over_by, side_by, unwanted_by, wait_by, number_by, next_by};
+ghost use Rattle.tsb_status.specs.WaitBy.{across_by, beside_by, clearing_by, committed_by, conflict_by, free_by, green_by, in_the_way_by, keeper_by, lacking_by, not_green_by, not_over_by, side_by, unwanted_by, wait_by, number_by, next_by};
 
 use crate::found::{Circumstances, Next, RingFound, Served, Waiting};
 use tsb_objects::{Checked, Phase, Preempt};
@@ -124,6 +124,26 @@ fn beside(crosses: bool, next: &Option<Next>) -> Option<Next>
     }
 }
 
+/// What a phase waits for whose ring has this phase in clearance.
+fn clearing(q: &Served) -> Wait
+    ensures { result ≡ clearing_by q.now }
+{
+    match q.trail {
+        Some((o, left)) => Wait::Trails(q.phase, o, left),
+        None => Wait::Clears(q.phase, q.left),
+    }
+}
+
+/// What a phase waits for that starts once this phase of the other ring makes way.
+fn across(q: &Served) -> Wait
+    ensures { result ≡ across_by q.now }
+{
+    match q.trail {
+        Some((o, left)) => Wait::Trails(q.phase, o, left),
+        None => Wait::Across(q.phase, q.left),
+    }
+}
+
 /// What a phase waits for that its ring is committed to.
 fn committed_wait(
     plan: &Checked,
@@ -135,13 +155,13 @@ fn committed_wait(
     ensures { result ≡ committed_by (checked_plan plan.now) p.now own.now other.now crosses }
 {
     if let Some(q) = not_over(&own.served) {
-        return Wait::Clears(q.phase, q.left);
+        return clearing(&q);
     }
     if !p.is_reverted {
         return Wait::RedRevert(p.red_revert);
     }
     if let Some(q) = in_the_way(plan, p.phase, crosses, &other.served) {
-        return Wait::Across(q.phase, q.left);
+        return across(&q);
     }
     match beside(crosses, &other.next) {
         None => Wait::Due,
@@ -248,7 +268,7 @@ fn free_wait(
         return Wait::Crossing(keeps);
     }
     if let Some(q) = not_green(&own.served) {
-        return Wait::Clears(q.phase, q.left);
+        return clearing(&q);
     }
     if !p.is_reverted {
         return Wait::RedRevert(p.red_revert);

@@ -8,11 +8,11 @@ use Rattle.tsb_transact.specs.Desk.{closed}
 use Rattle.tsb_transact.specs.Commit.{forgets_last_phases}
 use Rattle.tsb_transact.specs.Calls.{committed_plan}
 use Rattle.tsb_step.specs.declared.inputs.Input.{Input}
-use Rattle.tsb_step.specs.declared.inputs.Input.TheVariants.{Tick, Pattern, Switch, Fault, Reset, Commit, Clock}
+use Rattle.tsb_step.specs.declared.inputs.Input.TheVariants.{Tick, Pattern, Switch, Fault, Reset, Commit, Clock, Omit}
 use Rattle.tsb_step.specs.State.{State}
 use Rattle.tsb_step.specs.Step.{step, ticked, with_lamp, reset}
 use Rattle.tsb_step.specs.Signs.{field, watched}
-use Rattle.tsb_step.specs.Tick.{new_service, new_detectors, phases_given, rings_given, moves, gives_up, new_rings}
+use Rattle.tsb_step.specs.Tick.{new_service, new_detectors, phases_given, held, rings_given, moves, gives_up, new_rings}
 use Rattle.tsb_step.specs.DeskLaws.{is_of_desk, is_commit, by_any_station, without_desk}
 
 -- ## What the inputs of the desk change
@@ -26,6 +26,7 @@ change_the_desk_alone s (Fault lamp) of = cc
 change_the_desk_alone s Reset of = cc
 change_the_desk_alone s (Commit station) of = cc
 change_the_desk_alone s (Clock m) of = cc
+change_the_desk_alone s (Omit list) of = cc
 change_the_desk_alone s i of = refl
 
 -- ## What the others make of it, where the controller has tripped and where it has not
@@ -55,7 +56,7 @@ leave_the_desk s i of commits = cc
 
 tick_reads_no_desk : (s : State) (row : Row) (b : Bool) → is_some s.trip ≡ b →
     without_desk (ticked row s) ≡ without_desk (ticked row (without_desk s))
-unfolding watched field new_service new_detectors phases_given rings_given moves gives_up new_rings
+unfolding watched field new_service new_detectors phases_given held rings_given moves gives_up new_rings
 tick_reads_no_desk s row true tripped = rw tripped refl
 tick_reads_no_desk s row false tripped = rw tripped refl
 

@@ -17,6 +17,7 @@ pub mod ClockMistakes
 pub mod TimeLawMistakes
 pub mod TimeRuns
 pub mod EndMistakes
+pub mod OverlapRuns
 pub mod OtherRuns
 pub mod ChoiceRuns
 pub mod MemoryMistakes

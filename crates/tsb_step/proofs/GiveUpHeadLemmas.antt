@@ -3,9 +3,9 @@ use Rattle.std.proofs.Common.{◌≡◌, ℕ, ◌+◌, ◌==◌, Bool, true, fal
 use Rattle.std.proofs.lemmas.Bool.{cases_Bool, and_parts, true≢false, false≢true, false_from_ne_true}
 use Rattle.tsb_types.specs.declared.row.Row.{Row}
 use Rattle.tsb_types.specs.Lists.{run_from}
-use Rattle.tsb_objects.specs.tsb_plan.Parts.{is_anew}
+use Rattle.tsb_objects.specs.tsb_plan.Parts.{is_anew, is_timed}
 use Rattle.tsb_objects.specs.tsb_plan.Plan.{Plan, is_enabled}
-use Rattle.tsb_heads.specs.Overlaps.{is_kept_green, lasts, IsOverlap, some_lasts, overlap_head}
+use Rattle.tsb_heads.specs.Overlaps.{is_kept_green, lasts, IsOverlap, some_lasts, is_on_yellow, has_green_modifier, has_yellow_modifier, is_on_last_yellow, overlap_head}
 use Rattle.tsb_heads.specs.Reading.{commitment_of}
 use Rattle.tsb_heads.proofs.LastingLemmas.{kept-left, head-left, none-lasts}
 use Rattle.tsb_preempt.specs.Preempts as preempts
@@ -16,7 +16,7 @@ use Rattle.tsb_ring.specs.Rings.{Ring, Ring1, Ring2}
 use Rattle.tsb_ring.proofs.GivenUpLemmas.{left_of_target}
 use Rattle.tsb_step.specs.declared.inputs.Input.TheVariants.{Tick}
 use Rattle.tsb_step.specs.State.{State}
-use Rattle.tsb_step.specs.Tick.{preempts_given, preempts_read, new_service, service, target, must_end, after_moves, gives_up, new_rings, next}
+use Rattle.tsb_step.specs.Tick.{preempts_given, preempts_read, new_service, service, target, must_end, after_moves, gives_up, new_rings, after_rings, next}
 use Rattle.tsb_step.specs.Signs.{commitment, shown, is_choosing, is_lasting, watched}
 use Rattle.tsb_step.specs.Step.{step}
 use Rattle.tsb_step.specs.TimeLaws.{ShowsTheSame}
@@ -36,34 +36,53 @@ fewer_by_number a b x y first second n c h = go (n == 1) (n == 2) h
     go false false k = absurd cc
 
 module _ (s : State) (row : Row) where
-  left : (n c : ℕ) → commitment (next s row) n ≡ Some c → commitment (after_moves s row) n ≡ Some c
+  left : (n c : ℕ) → commitment (after_rings s row) n ≡ Some c → commitment (after_moves s row) n ≡ Some c
   left =
       fewer_by_number ((after_moves s row).rings.commitment Ring1) ((after_moves s row).rings.commitment Ring2)
-      ((next s row).rings.commitment Ring1) ((next s row).rings.commitment Ring2)
+      ((after_rings s row).rings.commitment Ring1) ((after_rings s row).rings.commitment Ring2)
       (λ c h. committed_by_moves s row Ring1 c h) (λ c h. committed_by_moves s row Ring2 c h)
 
   -- no overlap lasts where something is given up, and so each shows the same
-  pub given_head : gives_up s row ≡ true → (o : ℕ) → IsOverlap s.plan o →
-      overlap_head s.plan (shown (next s row)) o ≡ overlap_head s.plan (shown (after_moves s row)) o
+  given_head : gives_up s row ≡ true → (o : ℕ) → IsOverlap s.plan o →
+      overlap_head s.plan (shown (after_rings s row)) o ≡ overlap_head s.plan (shown (after_moves s row)) o
   given_head h o at =
-      head-left s.plan (shown (after_moves s row)) (commitment (next s row)) left o
+      head-left s.plan (shown (after_moves s row)) (commitment (after_rings s row)) left o
       (none-lasts s.plan (shown (after_moves s row)) o (gives_by s row h).1 at)
 
+  -- nor does what keeps an overlap green change
+  kept_given : gives_up s row ≡ true → (o : ℕ) → IsOverlap s.plan o →
+      is_kept_green s.plan (shown (after_rings s row)) o ≡ is_kept_green s.plan (shown (after_moves s row)) o
+  kept_given h o at =
+      kept-left s.plan (shown (after_moves s row)) (commitment (after_rings s row)) left o
+      (none-lasts s.plan (shown (after_moves s row)) o (gives_by s row h).1 at)
+
+  -- the overlaps, which follow then, change neither
+  untimed_head : (o : ℕ) → is_timed s.plan o ≡ false →
+      overlap_head s.plan (shown (next s row)) o ≡ overlap_head s.plan (shown (after_rings s row)) o
+  unfolding is_kept_green is_on_yellow has_green_modifier has_yellow_modifier is_on_last_yellow
+  untimed_head o untimed = rw untimed refl
+
+  pub kept_aside : (o : ℕ) → is_kept_green s.plan (shown (next s row)) o ≡ is_kept_green s.plan (shown (after_rings s row)) o
+  unfolding is_kept_green
+  kept_aside o = refl
+
+  pub kept_by_moves : (o : ℕ) → IsOverlap s.plan o →
+      is_kept_green s.plan (shown (next s row)) o ≡ is_kept_green s.plan (shown (after_moves s row)) o
+  kept_by_moves o at = kept_aside o ∙ by (gives_up s row) refl
+    where
+      by : (b : Bool) → gives_up s row ≡ b → is_kept_green s.plan (shown (after_rings s row)) o ≡ is_kept_green s.plan (shown (after_moves s row)) o
+      by true h = kept_given h o at
+      by false h = ap (λ (x : State). is_kept_green x.plan (shown x) o) (keeps_all s row h)
+
   pub shows_the_same : ShowsTheSame (after_moves s row) (next s row)
-  shows_the_same = record { phases = refl; overlap = λ o at. by (gives_up s row) refl o at }
+  shows_the_same = record { phases = refl; overlap = λ o at untimed. untimed_head o untimed ∙ by (gives_up s row) refl o at; kept = kept_by_moves }
     where
       by : (b : Bool) → gives_up s row ≡ b → (o : ℕ) → IsOverlap s.plan o →
-          overlap_head (next s row).plan (shown (next s row)) o ≡ overlap_head (after_moves s row).plan (shown (after_moves s row)) o
+          overlap_head s.plan (shown (after_rings s row)) o ≡ overlap_head s.plan (shown (after_moves s row)) o
       by true h o at = given_head h o at
       by false h o at = ap (λ (x : State). overlap_head x.plan (shown x) o) (keeps_all s row h)
 
-  -- nor does what keeps an overlap green change, and the monitor, which judges last, changes nothing of it
-  kept_given : gives_up s row ≡ true → (o : ℕ) → IsOverlap s.plan o →
-      is_kept_green s.plan (shown (next s row)) o ≡ is_kept_green s.plan (shown (after_moves s row)) o
-  kept_given h o at =
-      kept-left s.plan (shown (after_moves s row)) (commitment (next s row)) left o
-      (none-lasts s.plan (shown (after_moves s row)) o (gives_by s row h).1 at)
-
+  -- the monitor, which judges last, changes nothing of what keeps one green
   kept_watched : (o : ℕ) → s.trip ≡ None → is_kept_green (step s (Tick row)).plan (shown (step s (Tick row))) o ≡ is_kept_green s.plan (shown (next s row)) o
   unfolding step watched is_kept_green
   kept_watched o dark = go (is_some s.trip) (ap is_some dark)
@@ -78,11 +97,7 @@ module _ (s : State) (row : Row) where
 
   pub kept_then : (o : ℕ) → s.trip ≡ None → IsOverlap s.plan o →
       is_kept_green (step s (Tick row)).plan (shown (step s (Tick row))) o ≡ is_kept_green s.plan (shown (after_moves s row)) o
-  kept_then o dark at = kept_watched o dark ∙ by (gives_up s row) refl
-    where
-      by : (b : Bool) → gives_up s row ≡ b → is_kept_green s.plan (shown (next s row)) o ≡ is_kept_green s.plan (shown (after_moves s row)) o
-      by true h = kept_given h o at
-      by false h = ap (λ (x : State). is_kept_green x.plan (shown x) o) (keeps_all s row h)
+  kept_then o dark at = kept_watched o dark ∙ kept_by_moves o at
 
   -- ## Commitments
 
@@ -95,6 +110,14 @@ module _ (s : State) (row : Row) where
           is_lasting (if b then record s { now = s.now + 1 } else (if b then next s row else watched s (next s row))) ≡ is_lasting (next s row)
       go true h = absurd (true≢false h)
       go false h = refl
+
+  -- where the rings keep all
+  lasting_aside : is_lasting (next s row) ≡ is_lasting (after_rings s row)
+  unfolding some_lasts lasts run_from
+  lasting_aside = refl
+
+  lasting_kept : gives_up s row ≡ false → is_lasting (next s row) ≡ is_lasting (after_moves s row)
+  lasting_kept h = lasting_aside ∙ ap is_lasting (keeps_all s row h)
 
   -- a preempt that chooses anew has a target
   has_target : is_anew s.plan (service s row) ≡ true → is_some (target s row) ≡ true
@@ -127,13 +150,13 @@ module _ (s : State) (row : Row) where
   gave_up dark choosing quiet = gives (sym (choosing_then s row dark) ∙ choosing) (false_from_ne_true (is_lasting (after_moves s row)) lasted)
     where
       lasted : is_lasting (after_moves s row) ≡ true → ⊥
-      lasted e = true≢false (sym (lasting_then dark ∙ ap is_lasting (keeps_all s row (gives_none_lasting s row e)) ∙ e) ∙ quiet)
+      lasted e = true≢false (sym (lasting_then dark ∙ lasting_kept (gives_none_lasting s row e) ∙ e) ∙ quiet)
 
   pub wants_commitments : (r : Ring) (c : ℕ) → s.trip ≡ None → is_anew s.plan (service s row) ≡ true →
       (step s (Tick row)).rings.commitment r ≡ Some c → (must_end s row c ≡ false) ⊎ (is_lasting (step s (Tick row)) ≡ true)
   wants_commitments r c dark anew h =
       elim (cases_Bool (is_lasting (after_moves s row))) [
-        | inl e ↦ inr (lasting_then dark ∙ ap is_lasting (keeps_all s row (gives_none_lasting s row e)) ∙ e)
+        | inl e ↦ inr (lasting_then dark ∙ lasting_kept (gives_none_lasting s row e) ∙ e)
         | inr e ↦ (let same : (step s (Tick row)).rings ≡ given_up s.plan (target s row) (after_moves s row).rings =
             rings_then s row dark ∙ rings_given_up (gives anew e) in
             inl (of_target (target s row) refl (has_target anew) r c (sym (ap (λ (x : rings.State). x.commitment r) same) ∙ h)))

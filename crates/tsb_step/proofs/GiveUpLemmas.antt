@@ -13,7 +13,7 @@ use Rattle.tsb_ring.specs.GivenUp.{given_up}
 use Rattle.tsb_ring.proofs.GivenUpLemmas.{crossing_left, last_stays, no_crossing_given, outside_left, side_stays, was_before}
 use Rattle.tsb_step.specs.State.{State, interval}
 use Rattle.tsb_step.specs.Signs.{is_lasting}
-use Rattle.tsb_step.specs.Tick.{service, target, rings_given, after_moves, gives_up, new_rings, next}
+use Rattle.tsb_step.specs.Tick.{service, target, rings_given, after_moves, gives_up, new_rings, after_rings, next}
 
 -- ## Where nothing is given up
 
@@ -21,8 +21,8 @@ pub keeps_rings : (s : State) (row : Row) → gives_up s row ≡ false → (next
 unfolding new_rings
 keeps_rings s row h = rw h refl
 
--- the whole state is then what the moves make of it
-pub keeps_all : (s : State) (row : Row) → gives_up s row ≡ false → next s row ≡ after_moves s row
+-- the whole state is then what the moves make of it, before overlaps follow
+pub keeps_all : (s : State) (row : Row) → gives_up s row ≡ false → after_rings s row ≡ after_moves s row
 keeps_all s row h = ap (λ (x : rings.State). record (after_moves s row) { rings = x }) (keeps_rings s row h)
 
 pub gives_none : (s : State) (row : Row) → is_anew s.plan (service s row) ≡ false → gives_up s row ≡ false

@@ -14,7 +14,7 @@ use Rattle.tsb_ring.specs.Moves.{is_ended, is_cleared, interval_after}
 use Rattle.tsb_ring.proofs.MoveLemmas.{ends_ready, clears_over}
 use Rattle.tsb_step.specs.State.{State, interval}
 use Rattle.tsb_step.specs.Tick.{rings_given, moves, moved, phase_read, yellow_done, over, next}
-use Rattle.tsb_step.proofs.ClipLemmas.{clipped_holds}
+use Rattle.tsb_step.proofs.HoldLemmas.{taken_over}
 
 -- a phase that is over clears
 over_clears : (plan : Plan) (p : ℕ) (w : Phase) (i : Interval) → is_over_in plan p w i ≡ true → (is_yellow i || is_red_clear i) ≡ true
@@ -33,7 +33,7 @@ pub cleared_was_clearing : (s : State) (row : Row) (p : ℕ) → is_cleared (mov
     (is_yellow (interval s p) || is_red_clear (interval s p)) ≡ true
 unfolding moves rings_given is_over
 cleared_was_clearing s row p e =
-    over_clears s.plan p (phase_read s p) (interval s p) (clipped_holds (over s) p (clears_over s.plan s.rings (rings_given s row) p e))
+    over_clears s.plan p (phase_read s p) (interval s p) (taken_over s row p (clears_over s.plan s.rings (rings_given s row) p e))
 
 green_not : (i : Interval) → is_green i ≡ false → is_green i ≡ true → ⊥
 green_not i e h = absurd (false≢true (sym e ∙ h))

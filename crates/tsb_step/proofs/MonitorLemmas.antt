@@ -34,17 +34,18 @@ trip-told (suc zero) b c d e f g few blank alone = refl
 trip-told (suc (suc zero)) b c d e f g few blank alone = rw (alone refl) refl
 trip-told (suc (suc (suc n))) b c d e f g few blank alone = absurd (omega arith)
 
-lamp-told : (a b c d e f g : ℕ) → e ≤ 3 → (e ≡ 0 → (f ≡ 0) × (g ≡ 0)) → g ≤ 2 →
+lamp-told : (a b c d e f g : ℕ) → e ≤ 4 → (e ≡ 0 → (f ≡ 0) × (g ≡ 0)) → (e ≡ 4 → g ≡ 0) → g ≤ 2 →
     lamp_cells (lamp_in (a ∷ b ∷ c ∷ d ∷ e ∷ f ∷ g ∷ [])) ≡ (e ∷ f ∷ g ∷ [])
-lamp-told a b c d zero f g few dark color = rw ((dark refl).0, (dark refl).1) refl
-lamp-told a b c d (suc zero) f g few dark color = rw (signal-told g color) refl
-lamp-told a b c d (suc (suc zero)) f g few dark color = rw (pedestrian-told g color) refl
-lamp-told a b c d (suc (suc (suc zero))) f g few dark color = rw (signal-told g color) refl
-lamp-told a b c d (suc (suc (suc (suc n)))) f g few dark color = absurd (omega arith)
+lamp-told a b c d zero f g few dark still color = rw ((dark refl).0, (dark refl).1) refl
+lamp-told a b c d (suc zero) f g few dark still color = rw (signal-told g color) refl
+lamp-told a b c d (suc (suc zero)) f g few dark still color = rw (pedestrian-told g color) refl
+lamp-told a b c d (suc (suc (suc zero))) f g few dark still color = rw (signal-told g color) refl
+lamp-told a b c d (suc (suc (suc (suc zero)))) f g few dark still color = rw (still refl) refl
+lamp-told a b c d (suc (suc (suc (suc (suc n))))) f g few dark still color = absurd (omega arith)
 
 pub rows-told : (now : ℕ) (row : List ℕ) → IsMonitorBy now row → monitor_cells (lamp_in row) (trip_in row) ≡ row
 rows-told now (a ∷ (b ∷ (c ∷ (d ∷ (e ∷ (f ∷ (g ∷ []))))))) by =
-    ap₂ (λ (xs ys : List ℕ). xs ++ ys) (trip-told a b c d e f g by.cause by.untripped by.alone) (lamp-told a b c d e f g by.kind by.unlit by.color)
+    ap₂ (λ (xs ys : List ℕ). xs ++ ys) (trip-told a b c d e f g by.cause by.untripped by.alone) (lamp-told a b c d e f g by.kind by.unlit by.arrow by.color)
 rows-told now [] by = absurd (omega (arith, by.full))
 rows-told now (a ∷ []) by = absurd (omega (arith, by.full))
 rows-told now (a ∷ (b ∷ [])) by = absurd (omega (arith, by.full))
@@ -79,6 +80,7 @@ lamp-read a b c d None = refl
 lamp-read a b c d (Some (lamps.Phase p color)) = rw (signal-read color) refl
 lamp-read a b c d (Some (lamps.Pedestrian p color)) = rw (pedestrian-read color) refl
 lamp-read a b c d (Some (lamps.Overlap o color)) = rw (signal-read color) refl
+lamp-read a b c d (Some (lamps.Arrow o)) = refl
 
 -- ## Which rows
 
@@ -93,10 +95,11 @@ record IsTripBy (now a b c d : ℕ) : Type 0 where
 
 -- and the last three
 record IsLampBy (e f g : ℕ) : Type 0 where
-  kind : e ≤ 3
+  kind : e ≤ 4
   unlit : e ≡ 0 → (f ≡ 0) × (g ≡ 0)
   phase : 1 ≤ e → e ≤ 2 → IsUpTo 16 f
-  overlap : e ≡ 3 → IsUpTo OVERLAPS f
+  overlap : 3 ≤ e → IsUpTo OVERLAPS f
+  arrow : e ≡ 4 → g ≡ 0
   color : g ≤ 2
 
 joined : (now a b c d e f g : ℕ) → IsTripBy now a b c d → IsLampBy e f g → IsMonitorBy now (a ∷ b ∷ c ∷ d ∷ e ∷ f ∷ g ∷ [])
@@ -112,6 +115,7 @@ joined now a b c d e f g trip lamp = record {
   unlit = lamp.unlit;
   phase = lamp.phase;
   overlap = lamp.overlap;
+  arrow = lamp.arrow;
   color = lamp.color;
 }
 
@@ -121,6 +125,7 @@ lit e f g some few phase color = record {
   unlit = λ none. absurd (omega (arith, some, none));
   phase = λ from to. phase;
   overlap = λ three. absurd (omega (arith, few, three));
+  arrow = λ four. absurd (omega (arith, few, four));
   color = color;
 }
 
@@ -131,6 +136,7 @@ with-lamp now a b c d None trip is =
       unlit = λ none. (refl, refl);
       phase = λ some. absurd (omega (arith, some));
       overlap = λ three. absurd (omega (arith, three));
+      arrow = λ four. absurd (omega (arith, four));
       color = omega arith;
     })
 with-lamp now a b c d (Some (lamps.Phase p color)) trip is = joined now a b c d 1 p (signal_cell color) trip (lit 1 p (signal_cell color) (omega arith) (omega arith) is (signal-few color))
@@ -142,7 +148,17 @@ with-lamp now a b c d (Some (lamps.Overlap o color)) trip is =
       unlit = λ none. absurd (omega (arith, none));
       phase = λ some few. absurd (omega (arith, few));
       overlap = λ three. is;
+      arrow = λ four. absurd (omega (arith, four));
       color = signal-few color;
+    })
+with-lamp now a b c d (Some (lamps.Arrow o)) trip is =
+    joined now a b c d 4 o 0 trip (record {
+      kind = omega arith;
+      unlit = λ none. absurd (omega (arith, none));
+      phase = λ some few. absurd (omega (arith, few));
+      overlap = λ three. is;
+      arrow = λ four. refl;
+      color = omega arith;
     })
 
 pub state-read : (now : ℕ) (lamp : Option Lamp) (trip : Option Tripped) → IsLamp lamp → IsTrip now trip →
@@ -203,5 +219,6 @@ rows-stay m n row later by = record {
   unlit = by.unlit;
   phase = by.phase;
   overlap = by.overlap;
+  arrow = by.arrow;
   color = by.color;
 }

@@ -31,6 +31,7 @@ use Rattle.tsb_preempt.specs.Preempts as preempts
 use Rattle.tsb_preempt.specs.Preempts.{is_dwell, is_exit}
 use Rattle.tsb_preempt.specs.Promises.{stage_of}
 use Rattle.tsb_preempt.specs.Service.{Service, service_as_read}
+use Rattle.tsb_overlap.specs.Overlap as overlap
 use Rattle.tsb_step.specs.declared.inputs.Input.TheVariants.{Tick}
 use Rattle.tsb_step.specs.EventLaws.{EndsNoTime}
 use Rattle.tsb_step.specs.Events as events
@@ -89,10 +90,11 @@ none-between tick minimum gap maximum force_off timing noted zero yields state s
     ++ (none-told tick codes.WALK_BEGINS v.walks i ++ none-told tick codes.CLEARANCE_BEGINS v.clearances i
     ++ none-told tick codes.DONT_WALK_BEGINS (λ n. v.walks n || v.clearances n) i)
     ++ (if and-not_self v.crosses i then event tick codes.BARRIER_CROSSED v.side ∷ [] else [])
+    ++ (none-told tick codes.ARROW_BEGINS v.overlap_arrows i ++ none-told tick codes.ARROW_ENDS v.overlap_arrows i)
     ++ (none-told tick codes.CALL_COMES (events.vehicle_calls_in noted.form v) i ++ none-told tick codes.CALL_GOES (events.vehicle_calls_in noted.form v) i
     ++ none-told tick codes.PEDESTRIAN_CALL_COMES (events.pedestrian_calls_in noted.form v) i)
-    ++ (none-told tick codes.OVERLAP_GREEN_BEGINS v.overlap_greens i ++ none-told tick codes.OVERLAP_YELLOW_BEGINS v.overlap_yellows i
-    ++ none-told tick codes.OVERLAP_RED_BEGINS (λ n. v.overlap_greens n || v.overlap_yellows n) i
+    ++ (none-told tick codes.OVERLAP_GREEN_BEGINS v.overlap_greens i ++ none-told tick codes.OVERLAP_TRAIL_BEGINS v.overlap_trails i
+    ++ none-told tick codes.OVERLAP_YELLOW_BEGINS v.overlap_yellows i ++ none-told tick codes.OVERLAP_RED_BEGINS (events.lit_overlaps v) i
     ++ none-told tick codes.OVERLAP_OFF v.overlaps_off i)
     ++ (none-told_detectors tick codes.VEHICLE_OFF (events.vehicles_in noted.form noted.row v) i
     ++ none-told_detectors tick codes.VEHICLE_ON (events.vehicles_in noted.form noted.row v) i)
@@ -149,6 +151,7 @@ ran s = record s {
   detectors = detectors_waited s.detectors;
   phases = λ p. phase.as_read (s.phases p);
   preempts = preempts.as_read s.preempts;
+  overlaps = λ o. overlap.as_read (s.overlaps o);
 }
 
 -- how the cycle goes in the next tick

@@ -5,7 +5,7 @@ use Rattle.tsb_cells.specs.declared.timer.Timer.{Timer}
 use Rattle.tsb_cells.specs.Timer.{advanced, timer_cell}
 use Rattle.tsb_cells.proofs.DiffLemmas.{diff-same}
 use Rattle.tsb_cells.proofs.TimerLemmas.{timer_cell-advanced}
-use Rattle.tsb_types.specs.declared.limits.TheConstants.{VEHICLE_DETECTORS, PREEMPTS}
+use Rattle.tsb_types.specs.declared.limits.TheConstants.{VEHICLE_DETECTORS, OVERLAPS, PREEMPTS}
 use Rattle.tsb_types.specs.Lists.{run_from}
 use Rattle.tsb_types.specs.Sets.{list_of}
 use Rattle.tsb_types.proofs.SetLemmas.{same-list_of}
@@ -19,6 +19,9 @@ use Rattle.tsb_preempt.specs.Preempts as preempts
 use Rattle.tsb_preempt.specs.Preempts.{Preempts}
 use Rattle.tsb_preempt.specs.Service.{Service, service_as_read}
 use Rattle.tsb_preempt.specs.Cells.{service_cells, preempts_cells}
+use Rattle.tsb_overlap.specs.Overlap as overlap
+use Rattle.tsb_overlap.specs.Overlap.{Overlap}
+use Rattle.tsb_overlap.specs.Cells.{overlaps_cells}
 use Rattle.tsb_step.specs.declared.inputs.Input.{Input}
 use Rattle.tsb_step.specs.State.{State, Tripped}
 use Rattle.tsb_step.specs.Cells.{cells_of}
@@ -90,6 +93,11 @@ same_service now (Some x) = rw (timer_cell-advanced now x.timer, timer_cell-adva
 same_preempts : (now : ℕ) (f : Preempts) → preempts_cells (now + 1) (preempts.as_read f) ≡ preempts_cells now f
 same_preempts now f = rw (ran_on now f.delay PREEMPTS, same_service now f.service) refl
 
+-- ## Overlaps
+
+same_overlaps : (now : ℕ) (f : ℕ → Overlap) (omitted : ℕ → Bool) → overlaps_cells (now + 1) (λ o. overlap.as_read (f o)) omitted ≡ overlaps_cells now f omitted
+same_overlaps now f omitted = rw (ran_on now (λ o. (f o).timer) OVERLAPS) refl
+
 -- ## All of them
 
 pub waits_in_place : (s : State) → cells_of (waited s) ≡ cells_of s
@@ -98,7 +106,7 @@ waits_in_place s = go s.trip
   where
     go : (trip : Option Tripped) → cells_of (waited (record s { trip = trip })) ≡ cells_of (record s { trip = trip })
     go (Some trip) = refl
-    go None = rw (same_detectors s.now s.detectors, same_phases s.now s.phases, same_preempts s.now s.preempts) refl
+    go None = rw (same_detectors s.now s.detectors, same_phases s.now s.phases, same_preempts s.now s.preempts, same_overlaps s.now s.overlaps s.omitted) refl
 
 pub writes_nothing : (i : Input) (before after : State) → IsQuiet before after → (record_of i before after).entries ≡ []
 writes_nothing i before after quiet =

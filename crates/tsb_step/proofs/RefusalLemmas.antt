@@ -12,7 +12,7 @@ use Rattle.tsb_transact.specs.Calls as desk
 use Rattle.tsb_transact.specs.Commit as commit
 use Rattle.tsb_transact.specs.Desk.{is_done}
 use Rattle.tsb_step.specs.declared.inputs.Input.{Input}
-use Rattle.tsb_step.specs.declared.inputs.Input.TheVariants.{Tick, Pattern, Switch, Begin, Set, Verify, Commit, Abort}
+use Rattle.tsb_step.specs.declared.inputs.Input.TheVariants.{Tick, Pattern, Switch, Begin, Set, Verify, Commit, Abort, Omit}
 use Rattle.tsb_step.specs.State.{State}
 use Rattle.tsb_step.specs.Step.{verdict, is_serving, last_tick}
 use Rattle.tsb_step.specs.Tables.{place_refusal, version_of, has_place, greatest_of}
@@ -55,6 +55,7 @@ never-memory s (Commit station) =
     (first (desk.refused_if (not (is_done s.desk.state)) NotVerified) _ (either (not (is_done s.desk.state)) (Some NotVerified) None (λ h. cc) (λ h. cc))
     (either (commit.must_wait s.plan (is_serving s) (is_some s.preempts.service) s.desk.edits) (Some InService) None (λ h. cc) (λ h. cc)))
 never-memory s (Abort station) = stranger station s.desk.owner
+never-memory s (Omit list) = either (nat_lt list 65536) None (Some OutOfRange) (λ h. cc) (λ h. cc)
 never-memory s i = λ h. cc
 
 -- so a verdict is a refusal that may be answered

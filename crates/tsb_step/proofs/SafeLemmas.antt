@@ -1,4 +1,5 @@
--- Good states show safe displays: what has right of way is in service, and what is in service together is concurrent.
+-- Good states show phases that go together: what has right of way is in service, and what is in service together is
+-- concurrent.
 use Rattle.std.proofs.Common.{◌≡◌, ℕ, Bool, true, false, if◌then◌else◌, is_some, refl, sym, inl, inr, ◌⊎◌, ◌∙◌}
 use Rattle.std.proofs.lemmas.Bool.{cases_Bool, true≢false, false≢true}
 use Rattle.tsb_types.specs.declared.interval.Interval.{Interval}
@@ -12,20 +13,20 @@ use Rattle.tsb_types.specs.declared.row.Row.{Row}
 use Rattle.tsb_types.specs.Intervals.{in_service, is_green}
 use Rattle.tsb_objects.specs.tsb_plan.Plan.{is_enabled, is_concurrent}
 use Rattle.tsb_heads.specs.Heads.{Heads, aspect_of, vehicle_head, pedestrian_aspect_of, has_pedestrian_head, pedestrian_head}
-use Rattle.tsb_heads.specs.Displays.{ordered, flashed, flashing}
-use Rattle.tsb_heads.specs.Monitoring.{gives_way, lets_walk, has_right_of_way}
+use Rattle.tsb_heads.specs.Displays.{ordered}
+use Rattle.tsb_heads.specs.Monitoring.{gives_way, lets_walk, has_right_of_way, AreSafeByPhases}
 use Rattle.tsb_ring.specs.declared.ring_order.RingOrder.{RingOrder}
-use Rattle.tsb_ring.specs.Moves.{acted}
+use Rattle.tsb_ring.specs.Moves.{acted, is_started}
 use Rattle.tsb_ring.proofs.ActLemmas.{acts_as_next}
 use Rattle.tsb_ring.proofs.MoveLemmas.{or_cases}
 use Rattle.tsb_ring.proofs.SafetyLemmas.{sound_is_safe}
 use Rattle.tsb_ring.proofs.WaitLemmas.{starts_wait}
 use Rattle.tsb_step.specs.State.{State, interval, pedestrian_part}
-use Rattle.tsb_step.specs.Tick.{rings_given, moves, over, after_moves}
-use Rattle.tsb_step.specs.Signs.{shown, display, IsSafe}
+use Rattle.tsb_step.specs.Tick.{rings_given, moves, over, held, after_moves}
+use Rattle.tsb_step.specs.Signs.{shown}
 use Rattle.tsb_step.specs.Laws.{ServesTogether, StartsWaiting, ServesPreempt}
 use Rattle.tsb_step.specs.Good.{IsGood}
-use Rattle.tsb_step.proofs.ClipLemmas.{clipped_holds}
+use Rattle.tsb_step.proofs.HoldLemmas.{taken_over, taken_free}
 use Rattle.tsb_step.proofs.GivenLemmas.{symmetric}
 use Rattle.tsb_step.proofs.ServiceLemmas.{served}
 use Rattle.tsb_types.proofs.IntervalLemmas.{serves-green}
@@ -65,32 +66,10 @@ way_in_service s good p h =
       | inr k ↦ walks_in_service s good p k
     ]
 
--- flashing heads give no right of way
-flash_gives_none : (a : Aspect) → gives_way (flashed a) ≡ false
-flash_gives_none aspects.Dark = refl
-flash_gives_none aspects.Red = refl
-flash_gives_none aspects.Yellow = refl
-flash_gives_none aspects.Green = refl
-flash_gives_none aspects.FlashingRed = refl
-
-flash_is_stop : (heads : Heads) (p : ℕ) → has_right_of_way (flashing heads) p ≡ false
-flash_is_stop heads p = rw (flash_gives_none (heads.vehicle p)) refl
-
 -- ## What good states show
 
-pub ordered_is_safe : (s : State) → IsGood s → (p q : ℕ) → has_right_of_way (ordered s.plan (shown s)) p ≡ true →
-    has_right_of_way (ordered s.plan (shown s)) q ≡ true → (p ≡ q) ⊎ (is_concurrent s.plan p q ≡ true)
+pub ordered_is_safe : (s : State) → IsGood s → AreSafeByPhases s.plan (ordered s.plan (shown s))
 ordered_is_safe s good p q h k = served_together s good p q (way_in_service s good p h) (way_in_service s good q k)
-
-pub display_is_safe : (s : State) → IsGood s → IsSafe s
-unfolding display
-display_is_safe s good p q h k = go (is_some s.trip) h k
-  where
-    go : (b : Bool) → has_right_of_way (if b then flashing (ordered s.plan (shown s)) else ordered s.plan (shown s)) p ≡ true →
-        has_right_of_way (if b then flashing (ordered s.plan (shown s)) else ordered s.plan (shown s)) q ≡ true →
-        (p ≡ q) ⊎ (is_concurrent s.plan p q ≡ true)
-    go true x y = absurd (true≢false (sym x ∙ flash_is_stop (ordered s.plan (shown s)) p))
-    go false x y = ordered_is_safe s good p q x y
 
 -- ## Starts, and preempts in service
 
@@ -99,7 +78,17 @@ unfolding moves rings_given
 starts_waiting s good row p q h k =
     elim (starts_wait s.plan s.rings (rings_given s row) p q good.rings h k) [
       | inl both ↦ inl both
-      | inr done ↦ inr (clipped_holds (over s) q done)
+      | inr done ↦ inr (taken_over s row q done)
+    ]
+
+-- a phase in service that a start does not go with is held by no overlap
+pub starts_free : (s : State) → IsGood s → (row : Row) (p q : ℕ) → is_started (moves s row) p ≡ true → in_service (interval s q) ≡ true →
+    (is_concurrent s.plan p q ≡ true) ⊎ (held s row q ≡ false)
+unfolding moves rings_given
+starts_free s good row p q h k =
+    elim (starts_wait s.plan s.rings (rings_given s row) p q good.rings h k) [
+      | inl both ↦ inl both
+      | inr done ↦ inr (taken_free s row q done)
     ]
 
 pub serves_preempt : (s : State) → IsGood s → ServesPreempt s

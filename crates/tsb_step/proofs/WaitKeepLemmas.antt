@@ -1,5 +1,5 @@
 -- What a wait means keeps its phase from turning Green in the next tick.
-use Rattle.std.proofs.Common.{◌≡◌, ℕ, Bool, true, false, not, ◌&&◌, if◌then◌else◌, Option, Some, None, is_some, is_none, refl, sym, subst, ap, ◌∙◌, inl, inr}
+use Rattle.std.proofs.Common.{◌≡◌, ℕ, Bool, true, false, not, ◌&&◌, if◌then◌else◌, Option, Some, None, is_some, is_none, refl, sym, subst, ap, ◌∙◌, inl, inr, ◌⊎◌}
 use Rattle.std.proofs.lemmas.Bool.{cases_Bool, and_parts, or_cases, eq-eqb, true≢false, false≢true}
 use Rattle.std.proofs.lemmas.Option.{cond_some}
 use Rattle.tsb_types.specs.declared.row.Row.{Row}
@@ -35,6 +35,7 @@ use Rattle.tsb_step.specs.Step.{step}
 use Rattle.tsb_step.specs.Tick.{new_service, target, callable, calls_given, set, rings_given, moves, omitted}
 use Rattle.tsb_step.specs.Waits.{served, is_over_next, is_reverted_next, is_committed}
 use Rattle.tsb_step.specs.WaitLaws.{IsOutside, IsClearing, IsInTheWay, StartsBeside, IsLacking, IsConflict, IsKeptNext}
+use Rattle.tsb_step.proofs.HolderLemmas.{over-as-told}
 use Rattle.tsb_step.proofs.ClipLemmas.{clipped_holds, clipped_is_phase}
 use Rattle.tsb_step.proofs.EndLemmas.{ends_in_time}
 use Rattle.tsb_step.proofs.GivenLemmas.{symmetric, given}
@@ -190,16 +191,12 @@ target-is s row = refl
 -- a ring that is idle or over, by the phase that it has in service
 over-served : (s : State) (row : Row) (r : Ring) (q : ℕ) → served s r ≡ Some q → is_none_or_over (rings_given s row) (serving s.plan (rings_given s row) r) ≡ true →
     is_over_next s q ≡ true
-unfolding rings_given served serving
-over-served s row r q e h = rw e at h
+over-served s row r q e h =
+    sym (over-as-told s row q) ∙ subst (λ o. is_none_or_over (rings_given s row) o ≡ true) (served-is s row r ∙ e) h
 
 pub reverted-as-told : (s : State) (row : Row) (p : ℕ) → (rings_given s row).reverted p ≡ is_reverted_next s p
 unfolding rings_given
 reverted-as-told s row p = refl
-
-pub over-as-told : (s : State) (row : Row) (p : ℕ) → (rings_given s row).over p ≡ is_over_next s p
-unfolding rings_given
-over-as-told s row p = refl
 
 as-started : (s : State) (row : Row) (p : ℕ) → is_started (moves s row) p ≡ true → is_reverted_next s p ≡ true
 unfolding moves rings_given
@@ -280,6 +277,10 @@ module _ (s : State) (row : Row) (p : ℕ) (good : IsGood s) (h : is_started (mo
           (makes_way s.plan (rings_given s row) p (serving s.plan (rings_given s row) (other r))) b).2 in
           subst (λ o. makes_way s.plan (rings_given s row) p o ≡ true) e way
 
+  trails-not : (q : ℕ) → IsClearing s p q ⊎ ((is_committed s p ≡ true) × IsInTheWay s p q) → ⊥
+  trails-not q (inl k) = clears-not q k
+  trails-not q (inr k) = across-not q k.0 k.1
+
   beside-not : (x : ℕ) → is_committed s p ≡ true → StartsBeside s p x → ⊥
   beside-not x own k =
       elim (how-starts s row p good h) [
@@ -359,3 +360,4 @@ kept-next s good row p (waits.Barrier o) red k stays = not-green s row p good re
 kept-next s good row p (waits.Green q l) red k stays = not-green s row p good red (λ h. green-not s row p good h q l k)
 kept-next s good row p (waits.Conflict q) red k stays = not-green s row p good red (λ h. conflict-not s row p good h q k.0 k.1)
 kept-next s good row p waits.Turn red k stays = absurd stays
+kept-next s good row p (waits.Trails q o n) red k stays = not-green s row p good red (λ h. trails-not s row p good h q k.0)

@@ -34,11 +34,12 @@ use Rattle.tsb_step.specs.declared.waits.Wait.{Wait}
 use Rattle.tsb_step.specs.declared.waits.Wait.TheVariants as waits
 use Rattle.tsb_step.specs.State.{State, interval}
 use Rattle.tsb_step.specs.Tick.{phases_given, phase_read, rings_given, moves, ready, next, target, after_moves}
-use Rattle.tsb_step.specs.Waits.{first_wait, until_over, red_revert_left, time_to_last, served, is_over_next, is_reverted_next, not_over, not_reverted, not_concurrent, in_the_way, starts_beside, revert_wait, committed_wait, free_wait, is_committed, wait, waits_for}
+use Rattle.tsb_step.specs.Waits.{first_wait, clearing_wait, until_over, red_revert_left, time_to_last, served, is_over_next, is_reverted_next, not_over, not_reverted, not_concurrent, in_the_way, starts_beside, revert_wait, committed_wait, free_wait, is_committed, wait, waits_for}
 use Rattle.tsb_step.specs.WaitLaws.{Keeps, committed as keeps_committed, here, across, still_lacks}
 use Rattle.tsb_step.proofs.ClipLemmas.{clipped_holds}
 use Rattle.tsb_step.proofs.WaitSoLemmas.{first-cases, named, none-named, is-wait, wait-is-so}
-use Rattle.tsb_step.proofs.WaitKeepLemmas.{served-is, over-as-told, reverted-as-told}
+use Rattle.tsb_step.proofs.WaitKeepLemmas.{served-is, reverted-as-told}
+use Rattle.tsb_step.proofs.HolderLemmas.{over-as-told, clearing-cases}
 use Rattle.tsb_step.proofs.WaitedLemmas.{ended_was_ready}
 
 -- ## A phase that waits for nothing
@@ -122,17 +123,21 @@ record Unkept (s : State) (p : ℕ) (r : Ring) : Type 0 where
   way : in_the_way s p (served s (other r)) ≡ None
   beside : starts_beside s (s.rings.commitment (other r)) ≡ None
 
+-- a phase that clears is none
+clearing-not-due : (s : State) (wait : ℕ → ℕ → Wait) (q : ℕ) → ((n : ℕ) → wait q n ≡ waits.Due → ⊥) → clearing_wait s wait q ≡ waits.Due → ⊥
+clearing-not-due s wait q never = clearing-cases s wait q (λ w. w ≡ waits.Due → ⊥) (λ e. never (until_over s q) e) (λ o n held e. cc)
+
 due-unkept : (s : State) (p : ℕ) (r : Ring) → committed_wait s p r ≡ Some waits.Due → Unkept s p r
 unfolding committed_wait
 due-unkept s p r h =
     elim (first-cases clears (first_wait (revert_wait s p) (first_wait way (first_wait with_other (Some waits.Due)))) waits.Due h) [
-      | inl a ↦ (let n = named clearing (not_over s (served s r)) waits.Due a in let bad : waits.Clears n.one (until_over s n.one) ≡ waits.Due = n.gives in absurd cc)
+      | inl a ↦ (let n = named clearing (not_over s (served s r)) waits.Due a in absurd (clearing-not-due s waits.Clears n.one (λ m e. cc) n.gives))
       | inr a ↦
           elim (first-cases (revert_wait s p) (first_wait way (first_wait with_other (Some waits.Due))) waits.Due a.1) [
             | inl b ↦ absurd (reverts-not (is_reverted_next s p) b)
             | inr b ↦
                 elim (first-cases way (first_wait with_other (Some waits.Due)) waits.Due b.1) [
-                  | inl c ↦ (let n = named crossed (in_the_way s p (served s (other r))) waits.Due c in let bad : waits.Across n.one (until_over s n.one) ≡ waits.Due = n.gives in absurd cc)
+                  | inl c ↦ (let n = named crossed (in_the_way s p (served s (other r))) waits.Due c in absurd (clearing-not-due s waits.Across n.one (λ m e. cc) n.gives))
                   | inr c ↦
                       elim (first-cases with_other (Some waits.Due) waits.Due c.1) [
                         | inl d ↦ (let n = named reverting (starts_beside s (s.rings.commitment (other r))) waits.Due d in let bad : waits.Beside n.one (red_revert_left s n.one) ≡ waits.Due = n.gives in absurd cc)
@@ -148,10 +153,10 @@ due-unkept s p r h =
     ]
   where
     clearing : ℕ → Wait
-    clearing q = waits.Clears q (until_over s q)
+    clearing q = clearing_wait s waits.Clears q
 
     crossed : ℕ → Wait
-    crossed q = waits.Across q (until_over s q)
+    crossed q = clearing_wait s waits.Across q
 
     reverting : ℕ → Wait
     reverting c = waits.Beside c (red_revert_left s c)

@@ -15,8 +15,9 @@ use Rattle.tsb_step.specs.declared.waits.Wait.{Wait}
 use Rattle.tsb_step.specs.declared.waits.Wait.TheVariants as waits
 use Rattle.tsb_step.specs.State.{State, interval}
 use Rattle.tsb_step.specs.Tick.{omitted}
-use Rattle.tsb_step.specs.Waits.{first_wait, until_over, red_revert_left, lack, served, is_over_next, is_reverted_next, not_over, not_reverted, not_concurrent, lacking, in_the_way, starts_beside, revert_wait, committed_wait, omit_wait, preempt_wait, crossing_wait, not_green, keeper, barrier_wait, green_with, green_wait, conflicting, free_wait, is_committed, is_waiting, wait, waits_for}
-use Rattle.tsb_step.specs.WaitLaws.{Keeps, committed, here, across, IsKept}
+use Rattle.tsb_step.specs.Waits.{first_wait, clearing_wait, red_revert_left, lack, served, is_over_next, is_reverted_next, not_over, not_reverted, not_concurrent, lacking, in_the_way, starts_beside, revert_wait, committed_wait, omit_wait, preempt_wait, crossing_wait, not_green, keeper, barrier_wait, green_with, green_wait, conflicting, free_wait, is_committed, is_waiting, wait, waits_for}
+use Rattle.tsb_step.specs.WaitLaws.{Keeps, committed, here, across, IsClearing, IsInTheWay, IsKept}
+use Rattle.tsb_step.proofs.HolderLemmas.{clearing-cases}
 
 -- ## What may be none
 
@@ -125,10 +126,10 @@ committed-so s p w own h =
     r = own_ring s.plan p
 
     clearing : ℕ → Wait
-    clearing q = waits.Clears q (until_over s q)
+    clearing q = clearing_wait s waits.Clears q
 
     crossed : ℕ → Wait
-    crossed q = waits.Across q (until_over s q)
+    crossed q = clearing_wait s waits.Across q
 
     reverting : ℕ → Wait
     reverting c = waits.Beside c (red_revert_left s c)
@@ -148,12 +149,14 @@ committed-so s p w own h =
     clears-so : Named clearing (not_over s (served s r)) w → IsKept s p w
     clears-so n =
         let k = not-over s (served s r) n.one n.there in
-        subst (IsKept s p) n.gives (record { serves = k.0; clears = rw k.1 refl }, refl)
+        let is : IsClearing s p n.one = record { serves = k.0; clears = rw k.1 refl } in
+        subst (IsKept s p) n.gives (clearing-cases s waits.Clears n.one (IsKept s p) (is, refl) (λ o m held. (inl is, held)))
 
     across-so : Named crossed (in_the_way s p (served s (other r))) w → IsKept s p w
     across-so n =
         let k = way-so s p (served s (other r)) n.one n.there in
-        subst (IsKept s p) n.gives (own, record { serves = k.0; clears = k.1; apart = k.2 }, refl)
+        let is : IsInTheWay s p n.one = record { serves = k.0; clears = k.1; apart = k.2 } in
+        subst (IsKept s p) n.gives (clearing-cases s waits.Across n.one (IsKept s p) (own, is, refl) (λ o m held. (inr (own, is), held)))
 
     with-so : Named reverting (starts_beside s (s.rings.commitment (other r))) w → IsKept s p w
     with-so n =
@@ -251,7 +254,7 @@ conflict-so s p w free n =
 abbrev later_waits : State → ℕ → Ring → Option Wait
 later_waits s p r =
     first_wait (crossing_wait s r)
-    (first_wait (option_map (λ q. waits.Clears q (until_over s q)) (not_green s (served s r)))
+    (first_wait (option_map (clearing_wait s waits.Clears) (not_green s (served s r)))
     (first_wait (revert_wait s p)
     (first_wait (barrier_wait s p r)
     (first_wait (green_wait s (served s r))
@@ -290,7 +293,7 @@ later-so s p w free none h =
     r = own_ring s.plan p
 
     clearing : ℕ → Wait
-    clearing q = waits.Clears q (until_over s q)
+    clearing q = clearing_wait s waits.Clears q
 
     clears : Option Wait
     clears = option_map clearing (not_green s (served s r))
@@ -312,13 +315,11 @@ later-so s p w free none h =
 
     clears-so : Named clearing (not_green s (served s r)) w → IsKept s p w
     clears-so n =
-        subst (IsKept s p) n.gives (
-          record {
-            serves = not-green s (served s r) n.one n.there;
-            clears = rw none (and-false (is_over_next s n.one));
-          },
-          refl,
-        )
+        let is : IsClearing s p n.one = record {
+          serves = not-green s (served s r) n.one n.there;
+          clears = rw none (and-false (is_over_next s n.one));
+        } in
+        subst (IsKept s p) n.gives (clearing-cases s waits.Clears n.one (IsKept s p) (is, refl) (λ o m held. (inl is, held)))
 
 free-so : (s : State) (p : ℕ) (w : Wait) → is_committed s p ≡ false → free_wait s p (own_ring s.plan p) ≡ Some w → IsKept s p w
 unfolding free_wait

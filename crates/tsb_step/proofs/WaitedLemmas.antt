@@ -8,6 +8,7 @@ use Rattle.tsb_step.specs.State.{State}
 use Rattle.tsb_step.specs.Tick.{phases_given, phase_read, rings_given, moves, ready, over, reverted}
 use Rattle.tsb_step.specs.ClearanceLaws.{HasLasted}
 use Rattle.tsb_step.proofs.ClipLemmas.{clipped_holds}
+use Rattle.tsb_step.proofs.HoldLemmas.{taken_over}
 
 pub ended_was_ready : (s : State) (row : Row) (p : ℕ) → is_ended (moves s row) p ≡ true → ready s row p ≡ true
 unfolding moves rings_given
@@ -21,7 +22,7 @@ ended_has_lasted s row p h = record {
 
 pub cleared_was_over : (s : State) (row : Row) (p : ℕ) → is_cleared (moves s row) p ≡ true → over s p ≡ true
 unfolding moves rings_given
-cleared_was_over s row p h = clipped_holds (over s) p (clears_over s.plan s.rings (rings_given s row) p h)
+cleared_was_over s row p h = taken_over s row p (clears_over s.plan s.rings (rings_given s row) p h)
 
 pub started_has_reverted : (s : State) (row : Row) (p : ℕ) → is_started (moves s row) p ≡ true → reverted s p ≡ true
 unfolding moves rings_given

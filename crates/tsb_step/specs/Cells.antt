@@ -11,6 +11,7 @@
 -- | `first_cell.RINGS` | the rings' |
 -- | `first_cell.COORD` | coordination's, with the clock |
 -- | `first_cell.PREEMPTS` | the preempts' |
+-- | `first_cell.OVERLAPS` | the overlaps' |
 -- | `first_cell.MONITOR` | the monitor's and the injected lamp's |
 --
 -- These numbers are in `src/first_cell.rt`, each as a sum; `proofs/Examples/CellsExamples.antt` has them in digits.
@@ -32,6 +33,8 @@ use Rattle.tsb_coord.specs.declared.TheConstants.{CELLS as PATTERN_CELLS}
 use Rattle.tsb_coord.specs.Cells.{pattern_cells, pattern_in, correction_in, start_in}
 use Rattle.tsb_preempt.specs.declared.TheConstants.{CELLS as PREEMPT_CELLS}
 use Rattle.tsb_preempt.specs.Cells.{preempts_cells, preempts_in}
+use Rattle.tsb_overlap.specs.declared.TheConstants.{CELLS as OVERLAP_CELLS}
+use Rattle.tsb_overlap.specs.Cells.{overlaps_cells, overlap_in, omitted_in}
 use Rattle.tsb_step.specs.declared.TheConstants.{MONITOR_CELLS}
 use Rattle.tsb_step.specs.declared.first_cell.TheConstants as first_cell
 use Rattle.tsb_step.specs.MonitorCells.{monitor_cells, lamp_in, trip_in}
@@ -61,6 +64,7 @@ cells_of s =
     ++ rings_cells s.rings
     ++ pattern_cells s.pattern s.correction s.start_moment
     ++ preempts_cells (clock s) s.preempts
+    ++ overlaps_cells (clock s) s.overlaps s.omitted
     ++ monitor_cells s.lamp s.trip
 
 -- ## Reading
@@ -93,6 +97,10 @@ pattern_row row = row_at PATTERN_CELLS row first_cell.COORD
 abbrev pub preempts_row : List ℕ → List ℕ
 preempts_row row = row_at PREEMPT_CELLS row first_cell.PREEMPTS
 
+-- the cells of overlaps
+abbrev pub overlaps_row : List ℕ → List ℕ
+overlaps_row row = row_at OVERLAP_CELLS row first_cell.OVERLAPS
+
 -- those of the monitor, with the injected lamp
 abbrev pub monitor_row : List ℕ → List ℕ
 monitor_row row = row_at MONITOR_CELLS row first_cell.MONITOR
@@ -115,6 +123,8 @@ state_in now row = record {
   phases = phase_in (clock_in now row) (phases_row row);
   rings = rings_in (rings_row row);
   preempts = preempts_in (clock_in now row) (preempts_row row);
+  overlaps = overlap_in (clock_in now row) (overlaps_row row);
+  omitted = omitted_in (overlaps_row row);
   lamp = lamp_in (monitor_row row);
   trip = trip_in (monitor_row row);
 }

@@ -6,7 +6,7 @@ use Rattle.tsb_objects.specs.tsb_plan.Plan.{Plan}
 use Rattle.tsb_transact.specs.Desk.{closed}
 use Rattle.tsb_transact.specs.Calls.{committed_plan}
 use Rattle.tsb_step.specs.declared.inputs.Input.{Input}
-use Rattle.tsb_step.specs.declared.inputs.Input.TheVariants.{Tick, Pattern, Switch, Fault, Reset, Begin, Set, Verify, Commit, Abort, Clock}
+use Rattle.tsb_step.specs.declared.inputs.Input.TheVariants.{Tick, Pattern, Switch, Fault, Reset, Begin, Set, Verify, Commit, Abort, Clock, Omit}
 use Rattle.tsb_step.specs.State.{State}
 use Rattle.tsb_step.specs.Step.{step}
 use Rattle.tsb_step.specs.Signs.{display}
@@ -27,6 +27,7 @@ is_of_desk (Verify station) = true
 is_of_desk (Commit station) = false
 is_of_desk (Abort station) = true
 is_of_desk (Clock m) = false
+is_of_desk (Omit list) = false
 
 -- the one input of a station that changes the plan in effect
 abbrev pub is_commit : Input → Bool

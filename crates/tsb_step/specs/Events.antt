@@ -19,7 +19,7 @@ use Rattle.tsb_types.specs.Intervals.{in_service, is_green, is_yellow, is_red_cl
 use Rattle.tsb_types.specs.Lists.{or_number, run_from}
 use Rattle.tsb_types.specs.Sets.{has_detector, has_number}
 use Rattle.tsb_types.specs.declared.event.Event.{Event}
-use Rattle.tsb_types.specs.declared.event.TheConstants.{PHASE_ON, GREEN_BEGINS, CONFLICT_BEGINS, MINIMUM_COMPLETE, GAP_OUT, MAX_OUT, FORCE_OFF, GREEN_ENDS, YELLOW_BEGINS, YELLOW_ENDS, RED_CLEARANCE_BEGINS, RED_CLEARANCE_ENDS, PHASE_OFF, WALK_BEGINS, CLEARANCE_BEGINS, DONT_WALK_BEGINS, BARRIER_CROSSED, CALL_COMES, CALL_GOES, PEDESTRIAN_CALL_COMES, OVERLAP_GREEN_BEGINS, OVERLAP_YELLOW_BEGINS, OVERLAP_RED_BEGINS, OVERLAP_OFF, VEHICLE_OFF, VEHICLE_ON, ALARM_GOES, ALARM_COMES, PEDESTRIAN_OFF, PEDESTRIAN_ON, PREEMPT_ON, PREEMPT_OFF, PREEMPT_ENTERS, TRACK_BEGINS, DWELL_BEGINS, PRESENCE_EXCEEDED, EXIT_BEGINS, PATTERN_CHANGES, CYCLE_CHANGES, OFFSET_CHANGES, SPLIT_CHANGES, FLASH_CHANGES, FREE, FLASH, NO_FLASH, CYCLE_STATE_CHANGES, CYCLE_ZERO, YIELD_POINT}
+use Rattle.tsb_types.specs.declared.event.TheConstants.{PHASE_ON, GREEN_BEGINS, CONFLICT_BEGINS, MINIMUM_COMPLETE, GAP_OUT, MAX_OUT, FORCE_OFF, GREEN_ENDS, YELLOW_BEGINS, YELLOW_ENDS, RED_CLEARANCE_BEGINS, RED_CLEARANCE_ENDS, PHASE_OFF, WALK_BEGINS, CLEARANCE_BEGINS, DONT_WALK_BEGINS, BARRIER_CROSSED, CALL_COMES, CALL_GOES, PEDESTRIAN_CALL_COMES, ARROW_BEGINS, ARROW_ENDS, OVERLAP_GREEN_BEGINS, OVERLAP_TRAIL_BEGINS, OVERLAP_YELLOW_BEGINS, OVERLAP_RED_BEGINS, OVERLAP_OFF, VEHICLE_OFF, VEHICLE_ON, ALARM_GOES, ALARM_COMES, PEDESTRIAN_OFF, PEDESTRIAN_ON, PREEMPT_ON, PREEMPT_OFF, PREEMPT_ENTERS, TRACK_BEGINS, DWELL_BEGINS, PRESENCE_EXCEEDED, EXIT_BEGINS, PATTERN_CHANGES, CYCLE_CHANGES, OFFSET_CHANGES, SPLIT_CHANGES, FLASH_CHANGES, FREE, FLASH, NO_FLASH, CYCLE_STATE_CHANGES, CYCLE_ZERO, YIELD_POINT}
 use Rattle.tsb_types.specs.declared.interval.Interval.{Interval}
 use Rattle.tsb_types.specs.declared.interval.Interval.TheVariants.{Red}
 use Rattle.tsb_types.specs.declared.interval.PedestrianInterval.{PedestrianInterval}
@@ -29,7 +29,7 @@ use Rattle.tsb_types.specs.declared.row.Row.{Row}
 use Rattle.tsb_types.specs.declared.stage.Stage.{Stage}
 use Rattle.tsb_types.specs.declared.stage.Stage.TheVariants.{Track, Dwell, Exit}
 use Rattle.tsb_objects.specs.tsb_plan.declared.object.Object.TheVariants.{PatternCycleTime, PatternOffsetTime, SplitTime}
-use Rattle.tsb_objects.specs.tsb_plan.Parts.{is_included, split_index}
+use Rattle.tsb_objects.specs.tsb_plan.Parts.{is_arrow, is_included, is_modifier, split_index}
 use Rattle.tsb_objects.specs.tsb_plan.Plan.{Plan, minimum_green, phases, red_clear}
 use Rattle.tsb_objects.specs.tsb_plan.Running.{is_on_pedestrian_recall, split_in_effect}
 use Rattle.tsb_coord.specs.declared.cycle.CycleState.{CycleState}
@@ -45,6 +45,7 @@ use Rattle.tsb_phase.specs.Pedestrian.{ended_by}
 use Rattle.tsb_preempt.specs.Preempts as preempts
 use Rattle.tsb_preempt.specs.Preempts.{is_dwell, is_exit}
 use Rattle.tsb_preempt.specs.Service.{all_green, stage_phases}
+use Rattle.tsb_overlap.specs.Overlap.{is_trail_green}
 use Rattle.tsb_heads.specs.Monitoring as heads
 use Rattle.tsb_heads.specs.Colours as colours
 use Rattle.tsb_step.specs.declared.inputs.Input.{Input}
@@ -86,9 +87,12 @@ pub record View : Type 0 where
   -- phases on minimum or maximum recall, on pedestrian recall
   pub recalls : ℕ → Bool
   pub pedestrian_recalls : ℕ → Bool
-  -- overlaps: green, yellow; neither, with no phase in service that they include
+  -- overlaps: green, green after their phases, yellow, flashing yellow; none of these, with no phase in service that they
+  -- include, nor the turn of an arrow
   pub overlap_greens : ℕ → Bool
+  pub overlap_trails : ℕ → Bool
   pub overlap_yellows : ℕ → Bool
+  pub overlap_arrows : ℕ → Bool
   pub overlaps_off : ℕ → Bool
   -- vehicle detectors whose output is on, with an alarm
   pub outputs : ℕ → Bool
@@ -147,13 +151,22 @@ calls_now s = record {
 abbrev pub is_overlap : ℕ → Bool
 is_overlap o = nat_le 1 o && nat_le o OVERLAPS
 
--- some phase that the overlap includes is in service
-abbrev pub includes_service : State → ℕ → Bool
-includes_service s o = list_any (λ p. is_included s.plan o p && in_service (shown_interval s p)) (phases s.plan)
+-- phase p is one by which overlap o is lit: an included one, or the turn of an arrow
+abbrev pub is_by : Plan → ℕ → ℕ → Bool
+is_by plan o p = is_included plan o p || (is_arrow plan o && is_modifier plan o p)
 
--- its head is neither green nor yellow, and no such phase is in service
+-- some such phase is in service
+abbrev pub includes_service : State → ℕ → Bool
+includes_service s o = list_any (λ p. is_by s.plan o p && in_service (shown_interval s p)) (phases s.plan)
+
+-- its head is not lit, and no such phase is in service
 abbrev pub is_off : Aspect → Bool → Bool
-is_off head serves = not (heads.is_green head || colours.is_yellow head) && not serves
+is_off head serves =
+    not (heads.is_green head || (colours.is_yellow head || colours.is_flashing_yellow head)) && not serves
+
+-- it is green after its phases; in flash none is
+abbrev pub trails_now : State → ℕ → Bool
+trails_now s o = is_none s.trip && is_trail_green (s.overlaps o).interval
 
 -- a value of the pattern that runs, or of its split table; 0 where there is none
 abbrev pub or_zero : Option ℕ → (ℕ → ℕ) → ℕ
@@ -191,7 +204,9 @@ view s = record {
   recalls = is_recalled s.plan (calls_now s);
   pedestrian_recalls = is_on_pedestrian_recall s.plan (runs s);
   overlap_greens = λ o. is_overlap o && heads.is_green ((display s).overlap o);
+  overlap_trails = λ o. is_overlap o && trails_now s o;
   overlap_yellows = λ o. is_overlap o && colours.is_yellow ((display s).overlap o);
+  overlap_arrows = λ o. is_overlap o && colours.is_flashing_yellow ((display s).overlap o);
   overlaps_off = λ o. is_overlap o && is_off ((display s).overlap o) (includes_service s o);
   outputs = λ d. (s.detectors d).output;
   alarms = λ d. is_some (s.detectors d).alarm;
@@ -340,13 +355,23 @@ call_events tick form was now =
     ++ told tick CALL_GOES (ends (vehicle_calls_in form was) (vehicle_calls_in form now))
     ++ told tick PEDESTRIAN_CALL_COMES (begins (pedestrian_calls_in form was) (pedestrian_calls_in form now))
 
--- green begins, yellow begins, neither is any more, no included phase is in service either
+-- an arrow begins to flash, and ends
+abbrev pub arrow_events : ℕ → View → View → List Event
+arrow_events tick was now =
+    told tick ARROW_BEGINS (begins was.overlap_arrows now.overlap_arrows)
+    ++ told tick ARROW_ENDS (ends was.overlap_arrows now.overlap_arrows)
+
+-- the overlaps that are green, yellow or flash yellow
+abbrev pub lit_overlaps : View → ℕ → Bool
+lit_overlaps v = either (either v.overlap_greens v.overlap_yellows) v.overlap_arrows
+
+-- green begins, trailing green begins, yellow begins, it is lit no more, no phase by which it is lit is in service either
 abbrev pub overlap_events : ℕ → View → View → List Event
 overlap_events tick was now =
     told tick OVERLAP_GREEN_BEGINS (begins was.overlap_greens now.overlap_greens)
+    ++ told tick OVERLAP_TRAIL_BEGINS (begins was.overlap_trails now.overlap_trails)
     ++ told tick OVERLAP_YELLOW_BEGINS (begins was.overlap_yellows now.overlap_yellows)
-    ++ told tick OVERLAP_RED_BEGINS (ends (either was.overlap_greens was.overlap_yellows)
-    (either now.overlap_greens now.overlap_yellows))
+    ++ told tick OVERLAP_RED_BEGINS (ends (lit_overlaps was) (lit_overlaps now))
     ++ told tick OVERLAP_OFF (begins was.overlaps_off now.overlaps_off)
 
 -- the vehicle detectors that are on in a log of this form: by their outputs, or by the inputs of a row
@@ -445,7 +470,7 @@ flash_events tick was now =
 abbrev pub tick_events : ℕ → Found → View → View → List Event
 tick_events tick f was now =
     green_events tick was now ++ ending_events tick f ++ clearing_events tick was now ++ pedestrian_events tick was now
-    ++ crossing_events tick was now ++ call_events tick f.noted.form was now ++ overlap_events tick was now
+    ++ crossing_events tick was now ++ arrow_events tick was now ++ call_events tick f.noted.form was now ++ overlap_events tick was now
     ++ vehicle_events tick f.noted f.row was now ++ alarm_events tick was now ++ button_events tick f
     ++ request_events tick f.noted.row f.row was now ++ preempt_events tick was now ++ presence_events tick f was now ++ exit_events tick was now
     ++ (cycle_events tick was now ++ zero_events tick f) ++ yield_events tick f ++ flash_events tick was now
@@ -454,7 +479,7 @@ tick_events tick f was now =
 abbrev pub other_events : ℕ → Noted → View → View → Selected → Selected → List Event
 other_events tick noted was now was_selected now_selected =
     green_events tick was now ++ clearing_events tick was now ++ pedestrian_events tick was now
-    ++ call_events tick noted.form was now ++ overlap_events tick was now
+    ++ arrow_events tick was now ++ call_events tick noted.form was now ++ overlap_events tick was now
     ++ vehicle_events tick noted noted.row was now ++ alarm_events tick was now
     ++ request_events tick noted.row noted.row was now ++ preempt_events tick was now ++ exit_events tick was now
     ++ pattern_events tick was_selected now_selected ++ cycle_events tick was now ++ flash_events tick was now

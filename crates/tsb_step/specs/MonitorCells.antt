@@ -5,7 +5,7 @@
 -- | 0 | why the controller tripped: 1 a conflict, 2 green to red; 0 where it did not |
 -- | 1, 2 | the two phases of the conflict; or the phase that went from green to red, and 0 |
 -- | 3 | the tick number at which it tripped |
--- | 4 | the head with the injected lamp: 1 of a phase, 2 a pedestrian head, 3 of an overlap; 0 for no lamp |
+-- | 4 | the head with the injected lamp: 1 of a phase, 2 a pedestrian head, 3 of an overlap, 4 an arrow that flashes; 0 for no lamp |
 -- | 5 | the number of the phase or overlap |
 -- | 6 | what it shows: 0 red or don't walk, 1 yellow or clearance, 2 green or walk |
 use Rattle.std.specs.Prelude.{ℕ, ◌==◌, if◌then◌else◌, List, [], ◌∷◌, ◌++◌, slice_index, Option, Some, None}
@@ -48,6 +48,7 @@ lamp_cells None = 0 ∷ 0 ∷ 0 ∷ []
 lamp_cells (Some (lamps.Phase p color)) = 1 ∷ p ∷ signal_cell color ∷ []
 lamp_cells (Some (lamps.Pedestrian p color)) = 2 ∷ p ∷ pedestrian_cell color ∷ []
 lamp_cells (Some (lamps.Overlap o color)) = 3 ∷ o ∷ signal_cell color ∷ []
+lamp_cells (Some (lamps.Arrow o)) = 4 ∷ o ∷ 0 ∷ []
 
 -- THE TABLE: the cells of the injected lamp and the trip
 abbrev pub monitor_cells : Option Lamp → Option Tripped → List ℕ
@@ -76,12 +77,12 @@ signal_of cell = if cell == 0 then signals.Red else (if cell == 1 then signals.Y
 abbrev pub pedestrian_of : ℕ → PedestrianColor
 pedestrian_of cell = if cell == 0 then pedestrians.DontWalk else (if cell == 1 then pedestrians.Clearance else pedestrians.Walk)
 
--- what cells 4 to 6 say of a lamp; a kind above 3 would be read as an overlap
+-- what cells 4 to 6 say of a lamp; a kind above 4 would be read as an arrow
 abbrev pub lamp_of : ℕ → ℕ → ℕ → Lamp
 lamp_of kind n color =
     if kind == 1 then lamps.Phase n (signal_of color) else
     (if kind == 2 then lamps.Pedestrian n (pedestrian_of color) else
-    lamps.Overlap n (signal_of color))
+    (if kind == 3 then lamps.Overlap n (signal_of color) else lamps.Arrow n))
 
 -- the lamp that a row of 7 has; none where cell 4 is 0
 abbrev pub lamp_in : List ℕ → Option Lamp

@@ -25,10 +25,11 @@ pub record IsMonitorBy (now : ℕ) (row : List ℕ) : Type 0 where
   pub second : slice_index row 0 ≡ 1 → IsUpTo 16 (slice_index row 2)
   pub alone : slice_index row 0 ≡ 2 → slice_index row 2 ≡ 0
   pub tick : slice_index row 3 ≤ now
-  pub kind : slice_index row 4 ≤ 3
+  pub kind : slice_index row 4 ≤ 4
   pub unlit : slice_index row 4 ≡ 0 → (slice_index row 5 ≡ 0) × (slice_index row 6 ≡ 0)
   pub phase : 1 ≤ slice_index row 4 → slice_index row 4 ≤ 2 → IsUpTo 16 (slice_index row 5)
-  pub overlap : slice_index row 4 ≡ 3 → IsUpTo OVERLAPS (slice_index row 5)
+  pub overlap : 3 ≤ slice_index row 4 → IsUpTo OVERLAPS (slice_index row 5)
+  pub arrow : slice_index row 4 ≡ 4 → slice_index row 6 ≡ 0
   pub color : slice_index row 6 ≤ 2
 
 -- ## States that it can hold: phases and overlaps are among those that there are, and no trip is of a later tick
@@ -49,6 +50,7 @@ IsLamp None = Unit {0}
 IsLamp (Some (lamps.Phase p color)) = IsUpTo 16 p
 IsLamp (Some (lamps.Pedestrian p color)) = IsUpTo 16 p
 IsLamp (Some (lamps.Overlap o color)) = IsUpTo OVERLAPS o
+IsLamp (Some (lamps.Arrow o)) = IsUpTo OVERLAPS o
 
 -- ## Laws
 

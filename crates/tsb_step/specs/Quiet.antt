@@ -4,6 +4,7 @@ use Rattle.tsb_detect.specs.Detector as detector
 use Rattle.tsb_detect.specs.Detector.{Detector}
 use Rattle.tsb_phase.specs.Phase as phase
 use Rattle.tsb_preempt.specs.Preempts as preempts
+use Rattle.tsb_overlap.specs.Overlap as overlap
 use Rattle.tsb_step.specs.State.{State}
 
 -- each detector's timers stayed Off or ran on
@@ -20,6 +21,7 @@ waited s =
       detectors = detectors_waited s.detectors;
       phases = λ p. phase.as_read (s.phases p);
       preempts = preempts.as_read s.preempts;
+      overlaps = λ o. overlap.as_read (s.overlaps o);
     }
 
 -- the tick between two states is quiet

@@ -8,6 +8,7 @@ use Rattle.tsb_heads.specs.Displays as heads
 use Rattle.tsb_heads.specs.Monitoring as monitor
 use Rattle.tsb_heads.specs.Overlaps.{some_lasts}
 use Rattle.tsb_heads.specs.Reading.{commitment_of}
+use Rattle.tsb_overlap.specs.Overlap.{light}
 use Rattle.tsb_ring.specs.Rings.{Ring1, Ring2}
 use Rattle.tsb_coord.specs.Correction.{local_now, is_in_step}
 use Rattle.tsb_preempt.specs.Promises.{stage_of}
@@ -23,6 +24,7 @@ shown s = record {
   interval = interval s;
   pedestrian = pedestrian_part s;
   commitment = commitment s;
+  light = λ o. light (s.overlaps o).interval;
   tripped = is_some s.trip;
 }
 

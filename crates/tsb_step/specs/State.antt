@@ -1,6 +1,6 @@
 -- The whole controller: all of its state, field by field, each of the layer whose it is; and its state at power-up and
 -- after a reset.
-use Rattle.std.specs.Prelude.{ℕ, Option, None}
+use Rattle.std.specs.Prelude.{ℕ, Bool, false, Option, None}
 use Rattle.tsb_types.specs.declared.interval.Interval.{Interval}
 use Rattle.tsb_types.specs.declared.interval.PedestrianInterval.{PedestrianInterval}
 use Rattle.tsb_types.specs.declared.lamp.Lamp.{Lamp}
@@ -17,6 +17,8 @@ use Rattle.tsb_coord.specs.declared.correction.Correction.{Correction}
 use Rattle.tsb_coord.specs.Correction.{in_step}
 use Rattle.tsb_preempt.specs.Preempts as preempts
 use Rattle.tsb_preempt.specs.Preempts.{Preempts}
+use Rattle.tsb_overlap.specs.Overlap as overlap
+use Rattle.tsb_overlap.specs.Overlap.{Overlap}
 use Rattle.tsb_heads.specs.declared.monitor.Trip.{Trip}
 use Rattle.tsb_transact.specs.Desk.{Desk, closed}
 
@@ -43,6 +45,9 @@ pub record State : Type 0 where
   pub phases : ℕ → Phase
   pub rings : rings.State
   pub preempts : Preempts
+  -- of each overlap that has intervals of its own, and the arrows that are omitted
+  pub overlaps : ℕ → Overlap
+  pub omitted : ℕ → Bool
   -- the lamp that a fault has lit, and the trip, if the monitor has tripped
   pub lamp : Option Lamp
   pub trip : Option Tripped
@@ -61,6 +66,8 @@ start plan = record {
   phases = λ p. phase.at_power_up;
   rings = rings.power_up;
   preempts = preempts.at_power_up;
+  overlaps = λ o. overlap.at_power_up;
+  omitted = λ o. false;
   lamp = None;
   trip = None;
 }

@@ -5,6 +5,7 @@
 --
 -- Times are in tenths of a second. What is left of a time is 0 once it is reached.
 use Rattle.std.specs.Prelude.{ℕ, ◌+◌, ◌-◌, ◌/◌, ◌%◌, ◌==◌, nat_lt, Bool, true, false, not, ◌&&◌, ◌||◌, if◌then◌else◌, Option, Some, None, is_some, option_map}
+use Rattle.std.specs.List.{list_any}
 use Rattle.tsb_cells.specs.Timer.{is_on}
 use Rattle.tsb_types.specs.declared.event.TheConstants.{FREE}
 use Rattle.tsb_types.specs.declared.interval.Interval.{Interval}
@@ -14,8 +15,8 @@ use Rattle.tsb_types.specs.declared.lamp.Aspect.TheVariants as aspects
 use Rattle.tsb_types.specs.declared.stage.Stage.{Stage}
 use Rattle.tsb_types.specs.declared.stage.Stage.TheVariants as stages
 use Rattle.tsb_types.specs.Intervals.{in_service, is_green, is_yellow, is_red_clear, is_walk, is_clearance, is_dont_walk}
-use Rattle.tsb_types.specs.Lists.{is, or_number}
-use Rattle.tsb_objects.specs.tsb_plan.Parts.{cycle}
+use Rattle.tsb_types.specs.Lists.{is, or_number, run_from}
+use Rattle.tsb_objects.specs.tsb_plan.Parts.{cycle, is_arrow}
 use Rattle.tsb_objects.specs.tsb_plan.Plan.{Plan, is_enabled, yellow_change, red_clear}
 use Rattle.tsb_objects.specs.tsb_rules.Rules.{serves_pedestrians}
 use Rattle.tsb_coord.specs.Coordinated.{force_off}
@@ -176,10 +177,11 @@ pub record Status : Type 0 where
   pub pedestrian_calls : ℕ → Bool
   pub phase_ons : ℕ → Bool
   pub phase_nexts : ℕ → Bool
-  -- overlapStatusGroup: Reds, Yellows, Greens
+  -- overlapStatusGroup: Reds, Yellows, Greens; and the arrows that flash yellow, where the plan has an arrow
   pub overlap_reds : ℕ → Bool
   pub overlap_yellows : ℕ → Bool
   pub overlap_greens : ℕ → Bool
+  pub overlap_arrows : Option (ℕ → Bool)
   -- vehicleDetectorStatusGroup: Active, Alarms
   pub active : ℕ → Bool
   pub alarms : ℕ → Bool
@@ -221,6 +223,11 @@ is_red_head aspects.Red = true
 is_red_head aspects.Yellow = false
 is_red_head aspects.Green = false
 is_red_head aspects.FlashingRed = true
+is_red_head aspects.FlashingYellow = false
+
+-- some overlap is an arrow
+abbrev pub has_arrows : Plan → Bool
+has_arrows plan = list_any (is_arrow plan) (run_from 1 plan.counts.overlaps)
 
 -- some ring starts it next
 abbrev pub is_next : State → ℕ → Bool
@@ -272,6 +279,7 @@ status s = record {
   overlap_reds = λ o. is_overlap o && is_red_head ((display s).overlap o);
   overlap_yellows = (view s).overlap_yellows;
   overlap_greens = (view s).overlap_greens;
+  overlap_arrows = if has_arrows s.plan then Some (view s).overlap_arrows else None;
   active = λ d. (s.detectors d).output;
   alarms = (view s).alarms;
   preempt = preempt_state s s.preempts.service;

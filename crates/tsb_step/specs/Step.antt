@@ -5,8 +5,9 @@ use Rattle.tsb_machine.specs.tsb_history.declared.kinds.Kind.TheVariants as kind
 use Rattle.tsb_types.specs.declared.lamp.Lamp.{Lamp}
 use Rattle.tsb_types.specs.declared.limits.TheConstants.{TICKS}
 use Rattle.tsb_types.specs.declared.refusal.Refusal.{Refusal}
-use Rattle.tsb_types.specs.declared.refusal.Refusal.TheVariants.{TickLimit, TooManyEdits}
+use Rattle.tsb_types.specs.declared.refusal.Refusal.TheVariants.{TickLimit, TooManyEdits, OutOfRange}
 use Rattle.tsb_types.specs.declared.row.Row.{Row}
+use Rattle.tsb_types.specs.Sets.{names}
 use Rattle.tsb_objects.specs.tsb_plan.declared.object.ObjectId.{ObjectId}
 use Rattle.tsb_objects.specs.tsb_plan.Plan.{Plan}
 use Rattle.tsb_objects.specs.tsb_rules.declared.rules.Rule.{Rule}
@@ -21,7 +22,7 @@ use Rattle.tsb_transact.specs.Desk.{Desk, with_edits}
 use Rattle.tsb_transact.specs.Commit as commit
 use Rattle.tsb_transact.specs.Calls as desk
 use Rattle.tsb_step.specs.declared.inputs.Input.{Input}
-use Rattle.tsb_step.specs.declared.inputs.Input.TheVariants.{Tick, Pattern, Switch, Fault, Reset, Begin, Set, Verify, Commit, Abort, Clock}
+use Rattle.tsb_step.specs.declared.inputs.Input.TheVariants.{Tick, Pattern, Switch, Fault, Reset, Begin, Set, Verify, Commit, Abort, Clock, Omit}
 use Rattle.tsb_step.specs.State.{State, interval, restarted}
 use Rattle.tsb_step.specs.Tick as tick
 use Rattle.tsb_step.specs.Signs.{commitment, local, unless_tripped}
@@ -48,6 +49,10 @@ with_clock m s = record s {
   correction = selected_correction s.plan s.pattern s.now (midnight_at (Some (start_of m s.now)) s.now) (local s);
   start_moment = Some (start_of m s.now);
 }
+
+-- the arrows of this list flash no more from the next tick on, and others may
+abbrev pub with_omitted : ℕ → State → State
+with_omitted list s = record s { omitted = names list }
 
 -- the switch of preempt n is set; while it is on, so is the input of the preempt
 abbrev pub with_switch : ℕ → Bool → State → State
@@ -94,12 +99,17 @@ step s (Verify station) = with_desk (desk.after_check (found s.plan s.desk) s.de
 step s (Commit station) = committed s
 step s (Abort station) = with_desk desk.after_abort s
 step s (Clock m) = with_clock m s
+step s (Omit list) = with_omitted list s
 
 -- ## Why an input is refused
 
 -- E11: there is no tick after this one
 abbrev pub last_tick : ℕ
 last_tick = TICKS
+
+-- E3: a list names overlaps 1 to 16
+abbrev pub omit_refusal : ℕ → Option Refusal
+omit_refusal list = if nat_lt list 65536 then None else Some OutOfRange
 
 -- E6 where no station owns the desk, E5 where another does; E2 for the object or the index, E3 for the value; E8 for an
 -- edit of a further object where there are 64
@@ -126,6 +136,7 @@ verdict s (Verify station) = desk.verify_refusal station s.desk
 verdict s (Commit station) = desk.commit_refusal s.plan station (is_serving s) (is_some s.preempts.service) s.desk
 verdict s (Abort station) = desk.abort_refusal station s.desk
 verdict s (Clock m) = None
+verdict s (Omit list) = omit_refusal list
 
 -- ## Kinds
 
@@ -142,3 +153,4 @@ kind_of (Verify station) = kinds.Verify
 kind_of (Commit station) = kinds.Commit
 kind_of (Abort station) = kinds.Abort
 kind_of (Clock m) = kinds.Clock
+kind_of (Omit list) = kinds.Omit

@@ -1,12 +1,12 @@
 -- Which objects a plan takes, by its numbers of phases, sides, detectors, overlaps and preempts. With 16 phases, 4 sides
--- and all of the others this is the table of objects; with fewer of these it is that of version 2 of plan texts, and with
--- 8 phases and 2 sides besides that of version 1.
-use Rattle.std.specs.Prelude.{◌≡◌, ℕ, ◌-◌, ◌*◌, ◌^◌, nat_le, ◌==◌, Bool, true, not, ◌&&◌, ◌||◌, if◌then◌else◌, Option, Some, None, refl}
+-- and all of the others this is the table of objects; with fewer of these it is that of version 2 of plan texts, with
+-- overlaps that may be arrows; with 8 phases and 2 sides besides it is that of version 1.
+use Rattle.std.specs.Prelude.{◌≡◌, ℕ, ◌+◌, ◌-◌, ◌*◌, ◌^◌, nat_le, ◌==◌, Bool, true, not, ◌&&◌, ◌||◌, if◌then◌else◌, Option, Some, None, refl}
 use Rattle.std.specs.List.{list_all}
 use Rattle.tsb_types.specs.declared.refusal.Refusal.{Refusal}
 use Rattle.tsb_types.specs.declared.refusal.Refusal.TheVariants.{NoSuchObject, OutOfRange}
 use Rattle.tsb_objects.specs.tsb_plan.declared.object.Object.{Object}
-use Rattle.tsb_objects.specs.tsb_plan.declared.object.Object.TheVariants.{PhaseSide, PhaseConcurrency, VehicleDetectorCallPhase, PedestrianDetectorCallPhase, OverlapIncludedPhases, SequenceData, PreemptTrackPhase, PreemptDwellPhase, PreemptExitPhase, PhaseDynamicMaxLimit, PhaseDynamicMaxStep, OverlapModifierPhases}
+use Rattle.tsb_objects.specs.tsb_plan.declared.object.Object.TheVariants.{PhaseSide, PhaseConcurrency, VehicleDetectorCallPhase, PedestrianDetectorCallPhase, OverlapIncludedPhases, SequenceData, PreemptTrackPhase, PreemptDwellPhase, PreemptExitPhase, PhaseDynamicMaxLimit, PhaseDynamicMaxStep, OverlapType, OverlapModifierPhases}
 use Rattle.tsb_objects.specs.tsb_plan.declared.object.ObjectId.{ObjectId}
 use Rattle.tsb_objects.specs.tsb_plan.declared.version.Version.{Version}
 use Rattle.tsb_objects.specs.tsb_plan.declared.version.TheConstants.Version.{NEWEST}
@@ -70,10 +70,16 @@ pub all_as_in_table : list_all is_as_in_table objects ≡ true
 unfolding objects
 all_as_in_table = refl
 
+-- its greatest value with version 2 of plan texts, and with one type of overlaps more: arrows, which version 3 has
+abbrev pub greatest_with_arrows : Object → ℕ
+greatest_with_arrows OverlapType = greatest_in Two OverlapType + 1
+greatest_with_arrows o = greatest_in Two o
+
 -- with fewer detectors, overlaps and preempts it has those of version 2 of plan texts, if version 2 has the object
 abbrev pub is_as_in_version_2 : Object → Bool
 is_as_in_version_2 o =
-    not (has_object Two o) || ((indices_for 16 narrow_counts o == indices_in Two o) && (greatest_for 16 4 o == greatest_in Two o))
+    not (has_object Two o)
+    || ((indices_for 16 narrow_counts o == indices_in Two o) && (greatest_for 16 4 o == greatest_with_arrows o))
 
 -- so has each of the objects
 pub all_as_in_version_2 : list_all is_as_in_version_2 objects ≡ true

@@ -5,7 +5,7 @@
 --
 -- A layer is given of each phase what holds of phases 1 to 16 alone: false, or 0, of any other number, as in the sets
 -- that the layers give one another.
-use Rattle.std.specs.Prelude.{ℕ, ◌+◌, Bool, not, ◌&&◌, if◌then◌else◌, Option, Some, None, option_map}
+use Rattle.std.specs.Prelude.{ℕ, ◌+◌, Bool, not, ◌&&◌, if◌then◌else◌, Option, Some, None, is_some, option_map}
 use Rattle.tsb_cells.specs.declared.timer.Timer.{Timer}
 use Rattle.tsb_cells.specs.declared.timer.Timer.TheVariants.{Off}
 use Rattle.tsb_types.specs.declared.flow.Moves.{Moves}
@@ -34,7 +34,9 @@ use Rattle.tsb_coord.specs.Correction as correction
 use Rattle.tsb_preempt.specs.Preempts as preempts
 use Rattle.tsb_preempt.specs.Service.{Service}
 use Rattle.tsb_step.specs.State.{State, interval, pedestrian_part}
-use Rattle.tsb_step.specs.Signs.{is_lasting}
+use Rattle.tsb_overlap.specs.Overlap as overlaps
+use Rattle.tsb_overlap.specs.Overlap.{is_held}
+use Rattle.tsb_step.specs.Signs.{is_lasting, shown}
 
 -- ## Preempts: stage, target, what must end
 
@@ -172,6 +174,14 @@ ready s row p = timing.is_ready s.plan (phases_given s row) p (phase_read s p)
 abbrev pub over : State → ℕ → Bool
 over s p = timing.is_over s.plan p (phase_read s p)
 
+-- an overlap that trails holds it in clearance in this tick, whatever its own clearance
+unfoldable pub held : State → Row → ℕ → Bool
+held s row = is_held s.plan (is_some (service s row)) s.overlaps
+
+-- its own clearance is done, and no overlap holds it: so the rings take it
+abbrev pub lets_go : State → Row → ℕ → Bool
+lets_go s row p = over s p && not (held s row p)
+
 -- its red revert has passed since its yellow ended, or its red revert timer is Off
 abbrev pub reverted : State → ℕ → Bool
 reverted s p = timing.red_revert_passed s.plan p (phase_read s p)
@@ -198,7 +208,7 @@ rings_given s row = record {
   callable = clipped (callable s row);
   omitted = clipped (omitted s);
   ready = clipped (ready s row);
-  over = clipped (over s);
+  over = clipped (lets_go s row);
   reverted = clipped (reverted s);
   target = target s row;
 }
@@ -228,7 +238,8 @@ done s row = record {
 
 -- ## The new state, of a controller that has not tripped and before the monitor judges it
 
--- field by field, where rings give nothing up; plan, desk, pattern, clock, lamp and trip are as they were
+-- field by field, where rings give nothing up, and before overlaps follow; plan, desk, pattern, clock, omitted arrows,
+-- lamp and trip are as they were
 abbrev pub after_moves : State → Row → State
 after_moves s row = record {
   now = s.now + 1;
@@ -242,6 +253,8 @@ after_moves s row = record {
   phases = λ p. phase_next.next s.plan (phases_given s row) (moved s row) p (s.phases p);
   rings = rings_next.next s.plan s.rings (rings_given s row);
   preempts = preempts.next s.plan (preempts_given s row) s.preempts;
+  overlaps = s.overlaps;
+  omitted = s.omitted;
   lamp = s.lamp;
   trip = s.trip;
 }
@@ -255,6 +268,20 @@ gives_up s row = is_anew s.plan (service s row) && not (is_lasting (after_moves 
 unfoldable pub new_rings : State → Row → rings.State
 new_rings s row = if gives_up s row then given_up s.plan (target s row) (after_moves s row).rings else (after_moves s row).rings
 
+-- the state in which the rings have given up what they give up
+abbrev pub after_rings : State → Row → State
+after_rings s row = record (after_moves s row) { rings = new_rings s row }
+
+-- what overlaps see of it; of their own lights they see nothing
+abbrev pub overlaps_given : State → Row → overlaps.Given
+overlaps_given s row = record {
+  was_green = λ p. is_green (interval s p);
+  shown = shown (after_rings s row);
+  timer = λ p. ((after_rings s row).phases p).timer;
+  preempted = is_some (service s row);
+  omitted = s.omitted;
+}
+
 -- the new state
 abbrev pub next : State → Row → State
-next s row = record (after_moves s row) { rings = new_rings s row }
+next s row = record (after_rings s row) { overlaps = overlaps.next s.plan (overlaps_given s row) s.overlaps }

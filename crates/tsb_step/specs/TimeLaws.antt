@@ -12,14 +12,14 @@ use Rattle.tsb_types.specs.declared.lamp.Aspect.{Aspect}
 use Rattle.tsb_types.specs.declared.lamp.Aspect.TheVariants as aspects
 use Rattle.tsb_types.specs.declared.row.Row.{Row}
 use Rattle.tsb_objects.specs.tsb_plan.Plan.{Plan, yellow_change, red_clear, red_revert, side_of}
-use Rattle.tsb_objects.specs.tsb_plan.Parts.{is_anew, is_minus_green_yellow}
+use Rattle.tsb_objects.specs.tsb_plan.Parts.{is_anew, is_minus_green_yellow, is_timed}
 use Rattle.tsb_phase.specs.Pedestrian.{ended_by, walk_time, clearance_time}
 use Rattle.tsb_phase.specs.Laws.{least_green}
 use Rattle.tsb_phase.specs.Phase.{Phase}
 use Rattle.tsb_ring.specs.Rings as rings
 use Rattle.tsb_ring.specs.Rings.{Ring}
 use Rattle.tsb_heads.specs.Monitoring.{conflict}
-use Rattle.tsb_heads.specs.Overlaps.{IsOverlap, overlap_head}
+use Rattle.tsb_heads.specs.Overlaps.{IsOverlap, is_kept_green, overlap_head}
 use Rattle.tsb_ring.specs.Moves.{is_started}
 use Rattle.tsb_step.specs.declared.inputs.Input.{Input}
 use Rattle.tsb_step.specs.declared.inputs.Input.TheVariants.{Tick, Reset}
@@ -136,10 +136,12 @@ abbrev pub CommitmentsAreWanted : Type 0
 CommitmentsAreWanted = OfEveryRun (λ s. (row : Row) (r : Ring) (c : ℕ) → s.trip ≡ None → is_anew s.plan (service s row) ≡ true →
     (step s (Tick row)).rings.commitment r ≡ Some c → (must_end s row c ≡ false) ⊎ (is_lasting (step s (Tick row)) ≡ true))
 
--- what is given up in a tick changes no phase, and no head of it or of an overlap
+-- what is given up in a tick changes no phase, and no head of it; nor does it change that of an overlap which goes by its
+-- phases, nor what keeps one green that trails. An arrow may flash once the rings have given up its turn
 pub record ShowsTheSame (s t : State) : Type 0 where
   pub phases : t.phases ≡ s.phases
-  pub overlap : (o : ℕ) → IsOverlap s.plan o → overlap_head t.plan (shown t) o ≡ overlap_head s.plan (shown s) o
+  pub overlap : (o : ℕ) → IsOverlap s.plan o → is_timed s.plan o ≡ false → overlap_head t.plan (shown t) o ≡ overlap_head s.plan (shown s) o
+  pub kept : (o : ℕ) → IsOverlap s.plan o → is_kept_green t.plan (shown t) o ≡ is_kept_green s.plan (shown s) o
 
 -- each tick of every run does
 abbrev pub GivingUpShowsNothing : Type 0

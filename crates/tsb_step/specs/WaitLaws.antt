@@ -23,7 +23,7 @@ use Rattle.tsb_step.specs.Signs.{stage}
 use Rattle.tsb_step.specs.State.{State, interval}
 use Rattle.tsb_step.specs.Step.{step}
 use Rattle.tsb_step.specs.Tick.{new_service, target, phases_given, phase_read, moves, ready, omitted, next}
-use Rattle.tsb_step.specs.Waits.{until_over, red_revert_left, time_to_last, lack, served, is_over_next, is_reverted_next, is_committed, waits_for}
+use Rattle.tsb_step.specs.Waits.{until_over, red_revert_left, time_to_last, lack, served, holds_next, held_left, is_cleared_next, is_over_next, is_reverted_next, is_committed, waits_for}
 
 -- ## What a wait says of the state
 
@@ -50,6 +50,12 @@ pub record IsInTheWay (s : State) (p q : ℕ) : Type 0 where
   pub serves : served s (other (own_ring s.plan p)) ≡ Some q
   pub clears : is_over_next s q ≡ false
   pub apart : (is_some s.rings.crossing || not (is_concurrent s.plan p q)) ≡ true
+
+-- the clearance of q is done in the next tick, and overlap o holds q, which trails, for this time at most
+pub record IsHeldBy (s : State) (q o n : ℕ) : Type 0 where
+  pub cleared : is_cleared_next s q ≡ true
+  pub holds : holds_next s q o ≡ true
+  pub left : n ≡ held_left s o
 
 -- p starts in a crossing together with a phase of the other ring whose red revert has not passed
 pub record StartsBeside (s : State) (p c : ℕ) : Type 0 where
@@ -89,6 +95,7 @@ IsKept s p (waits.Barrier o) =
 IsKept s p (waits.Green q l) = IsLacking s p q l
 IsKept s p (waits.Conflict q) = (is_committed s p ≡ false) × IsConflict s p q
 IsKept s p waits.Turn = is_committed s p ≡ false
+IsKept s p (waits.Trails q o n) = (IsClearing s p q ⊎ ((is_committed s p ≡ true) × IsInTheWay s p q)) × IsHeldBy s q o n
 
 -- A wait says what is so, of whatever state.
 abbrev pub WaitsAreSo : Type 0

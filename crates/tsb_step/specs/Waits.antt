@@ -13,7 +13,7 @@ use Rattle.tsb_types.specs.declared.interval.PedestrianInterval.{PedestrianInter
 use Rattle.tsb_types.specs.declared.interval.PedestrianInterval.TheVariants.{DontWalk, Walk, PedestrianClear}
 use Rattle.tsb_types.specs.Clip.{clipped, within}
 use Rattle.tsb_types.specs.Intervals.{in_service, is_green}
-use Rattle.tsb_types.specs.Lists.{first, is, or_else}
+use Rattle.tsb_types.specs.Lists.{first, is, or_else, run_from}
 use Rattle.tsb_objects.specs.tsb_plan.Parts.{preempt_minimum_green}
 use Rattle.tsb_objects.specs.tsb_plan.Plan.{Plan, phases, is_concurrent, side_of, yellow_change, red_clear, red_revert}
 use Rattle.tsb_calls.specs.Standing as standing
@@ -24,6 +24,7 @@ use Rattle.tsb_phase.specs.Phase.{Phase}
 use Rattle.tsb_phase.specs.Ready.{may_end, needs_forced}
 use Rattle.tsb_preempt.specs.Preempts.{wanted_by, is_outside}
 use Rattle.tsb_preempt.specs.Service.{Service, stage_phases}
+use Rattle.tsb_overlap.specs.Overlap.{holds, trail_left}
 use Rattle.tsb_ring.specs.Rings.{Ring, other, in_ring, own_ring}
 use Rattle.tsb_step.specs.declared.waits.Lack.{Lack}
 use Rattle.tsb_step.specs.declared.waits.Lack.TheVariants as lacks
@@ -130,9 +131,35 @@ lack s p = part_lack s.plan (phases_again s) p (s.phases p) (pedestrian_part s p
 unfoldable pub served : State → Ring → Option ℕ
 served s r = first (λ p. in_ring s.plan r p && in_service (interval s p)) (phases s.plan)
 
--- its clearance is done in the next tick, as the rings read it
+-- the overlaps that hold it in clearance in the next tick, while the preempt in service stays
+abbrev pub holds_next : State → ℕ → ℕ → Bool
+holds_next s p o = holds s.plan (is_some s.preempts.service) s.overlaps p o
+
+-- the least of these
+unfoldable pub holder : State → ℕ → Option ℕ
+holder s p = first (holds_next s p) (run_from 1 s.plan.counts.overlaps)
+
+-- its own clearance is done in the next tick
+abbrev pub is_cleared_next : State → ℕ → Bool
+is_cleared_next s p = clipped (over s) p
+
+-- and no overlap holds it: so the rings take it
 abbrev pub is_over_next : State → ℕ → Bool
-is_over_next s p = clipped (over s) p
+is_over_next s p = is_cleared_next s p && is_none (holder s p)
+
+-- how long overlap o holds its phases still, at most
+abbrev pub held_left : State → ℕ → ℕ
+held_left s o = trail_left s.plan (is_some s.preempts.service) o (s.overlaps o) (s.overlaps o).interval
+
+-- of an overlap that holds q, if one does
+abbrev pub held_wait : State → (ℕ → ℕ → Wait) → ℕ → Option ℕ → Wait
+held_wait s wait q None = wait q (until_over s q)
+held_wait s wait q (Some o) = waits.Trails q o (held_left s o)
+
+-- the wait for a phase q that clears, by its own clearance, or by the overlap that holds it once that is done
+abbrev pub clearing_wait : State → (ℕ → ℕ → Wait) → ℕ → Wait
+clearing_wait s wait q =
+    if is_cleared_next s q then held_wait s wait q (holder s q) else wait q (until_over s q)
 
 -- its red revert has passed in the next tick, as the rings read it
 abbrev pub is_reverted_next : State → ℕ → Bool
@@ -177,9 +204,9 @@ revert_wait s p = if is_reverted_next s p then None else Some (waits.RedRevert (
 -- make way, the red revert of the phase that starts with it. Otherwise it starts
 unfoldable pub committed_wait : State → ℕ → Ring → Option Wait
 committed_wait s p r =
-    first_wait (option_map (λ q. waits.Clears q (until_over s q)) (not_over s (served s r)))
+    first_wait (option_map (clearing_wait s waits.Clears) (not_over s (served s r)))
     (first_wait (revert_wait s p)
-    (first_wait (option_map (λ q. waits.Across q (until_over s q)) (in_the_way s p (served s (other r))))
+    (first_wait (option_map (clearing_wait s waits.Across) (in_the_way s p (served s (other r))))
     (first_wait (option_map (λ c. waits.Beside c (red_revert_left s c)) (starts_beside s (s.rings.commitment (other r))))
     (Some waits.Due))))
 
@@ -239,7 +266,7 @@ free_wait s p r =
     (first_wait (preempt_wait s.plan p s.preempts.service)
     (first_wait (option_map waits.Next (s.rings.commitment r))
     (first_wait (crossing_wait s r)
-    (first_wait (option_map (λ q. waits.Clears q (until_over s q)) (not_green s (served s r)))
+    (first_wait (option_map (clearing_wait s waits.Clears) (not_green s (served s r)))
     (first_wait (revert_wait s p)
     (first_wait (barrier_wait s p r)
     (first_wait (green_wait s (served s r))

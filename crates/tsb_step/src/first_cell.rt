@@ -1,5 +1,5 @@
 //! The numbers of first cells among all cells of the controller, and how many cells there are. The cells are those of
-//! the plan, of the desk, of the six layers, and of the monitor with the injected lamp.
+//! the plan, of the desk, of the seven layers, and of the monitor with the injected lamp.
 
 use crate::MONITOR_CELLS;
 use tsb_objects::PLAN_CELLS;
@@ -25,10 +25,13 @@ pub const COORD: u16 = RINGS + tsb_ring::CELLS as u16;
 /// The preempts'.
 pub const PREEMPTS: u16 = COORD + tsb_coord::CELLS as u16;
 
-/// The monitor's and the injected lamp's.
-pub const MONITOR: u16 = PREEMPTS + tsb_preempt::CELLS as u16;
+/// The overlaps'.
+pub const OVERLAPS: u16 = PREEMPTS + tsb_preempt::CELLS as u16;
 
-/// How many cells the six layers have.
+/// The monitor's and the injected lamp's.
+pub const MONITOR: u16 = OVERLAPS + tsb_overlap::CELLS as u16;
+
+/// How many cells the seven layers have.
 pub const LAYER_CELLS: usize = (MONITOR - DETECTORS) as usize;
 
 /// How many cells there are.

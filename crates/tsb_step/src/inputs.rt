@@ -35,4 +35,7 @@ pub enum Input {
     /// A clock is set: the next tick begins at this moment. Each tick has its moment from then on, and local counters count
     /// from midnights (profile). Refused for want of memory alone.
     Clock(ClockTime),
+    /// The overlaps of this list are the arrows that do not flash from now on, in place of those of the one before
+    /// (profile). Refused with E3 for a list that names more than 16.
+    Omit(u32),
 }

@@ -5,8 +5,9 @@ ghost use Rattle.tsb_step.specs.Laws.{DisplaysAreSafe, FaultsAloneTrip, MemoryIs
 /// `safe`: No two phases that cross have right of way. Any two phases with right of way on the display are equal or
 /// concurrent in the plan in effect.
 ///
-/// Not said: anything of overlaps, or of a lamp that a fault lights, as the display is the controller's own. A bench
-/// that always flashes would keep this; the next clause refuses it.
+/// Not said: anything of overlaps but of the green of arrows, which gives right of way to their turns; or of a lamp
+/// that a fault lights, as the display is the controller's own. A bench that always flashes would keep this; the next
+/// clause refuses it.
 /// Mistake: a plan of one-sided concurrency, `one_way`. Two phases that are not concurrent are green (`serves_1`,
 /// `serves_5`, `is_unsafe`), and only the trip hides it.
 /// Witness: `pair` of OtherRuns, in which two phases have right of way.

@@ -8,7 +8,8 @@ ghost use Rattle.tsb_step.specs.WaitLaws.{DuePhasesStart, GreensKeepRings, Keepe
 /// Mistakes: the commitment of the other ring, `next_of_other` (`is_3`, `would_name_8`); any phase in service, for a
 /// crossing or the barrier, `first_served` (`is_over_6`, `would_name_6`, `lacks_nothing`, `would_name_2`); any phase of
 /// the other ring as a conflict (`goes_with_6`, `would_name_6_too`).
-/// Witness: `clears` to `force_off` of WaitExamples, a state for each kind of wait and of lack.
+/// Witness: `clears` to `force_off` of WaitExamples, `waits_for_the_trail` of OverlapRuns, a state for each kind of wait
+/// and of lack.
 pub fn waits_are_so()
     ensures { WaitsAreSo }
 {}
@@ -22,7 +23,7 @@ pub fn waits_are_so()
 /// Mistakes: an omit that seems to keep a phase from a preempt too (`is_omitted`, `would_start_it`); a preempt, where
 /// its service ends (`is_preempted`, `would_start_then`); red revert and clearance by timers as the last tick left
 /// them, `reverts_as_it_was` (`has_not_passed`, `starts_at_20`) and `over_as_it_was` (`is_not_over`, `starts`).
-/// Witness: `flashes` to `conflict_next` of WaitExamples.
+/// Witness: `flashes` to `conflict_next` of WaitExamples, `waits_for_the_trail` of OverlapRuns.
 pub fn waits_keep_phases()
     ensures { WaitsKeepPhases }
 {}

@@ -1,6 +1,6 @@
 //! What a phase that is called and not Green waits for, and what a green lacks that may not end.
 
-use tsb_objects::{Phase, Preempt};
+use tsb_objects::{Overlap, Phase, Preempt};
 
 /// What a green lacks that may not end (NEMA TS 2, actuated phase timing): the first of these that applies. Times are
 /// what is left, in tenths of a second.
@@ -48,6 +48,9 @@ pub enum Wait {
     /// It is on another side of the barriers than the one that is served; the phase that keeps the barrier from being
     /// crossed, if one does.
     Barrier(Option<Phase>),
+    /// The phase of its ring, or of the other ring where its ring is committed to it, has cleared, and this overlap holds
+    /// it, which trails: for this time at most.
+    Trails(Phase, Overlap, u32),
     /// The phase of its ring is Green and lacks something.
     Green(Phase, Lack),
     /// The other ring serves this phase, or starts it next, and it is not concurrent with it.

@@ -39,7 +39,9 @@ dark = record {
   recalls = none;
   pedestrian_recalls = none;
   overlap_greens = none;
+  overlap_trails = none;
   overlap_yellows = none;
+  overlap_arrows = none;
   overlaps_off = none;
   outputs = none;
   alarms = none;
@@ -212,6 +214,19 @@ overlap_red = refl
 overlap_off : events.tick_events 9 quiet (record dark { overlap_yellows = only 1 }) (record dark { overlaps_off = only 1 }) ≡ event 9 64 1 ∷ event 9 65 1 ∷ []
 unfolding opened
 overlap_off = refl
+
+-- arrow 2 begins to flash, and has its yellow then; overlap 3 stays green after its phases
+arrow_flashes : events.tick_events 9 quiet dark (record dark { overlap_arrows = only 2 }) ≡ event 9 32 2 ∷ []
+unfolding opened
+arrow_flashes = refl
+
+arrow_clears : events.tick_events 9 quiet (record dark { overlap_arrows = only 2 }) (record dark { overlap_yellows = only 2 }) ≡ event 9 33 2 ∷ event 9 63 2 ∷ []
+unfolding opened
+arrow_clears = refl
+
+overlap_trails : events.tick_events 9 quiet (record dark { overlap_greens = only 3 }) (record dark { overlap_greens = only 3; overlap_trails = only 3 }) ≡ event 9 62 3 ∷ []
+unfolding opened
+overlap_trails = refl
 
 -- inputs of the row go off and on
 inputs_change : events.tick_events 9 (record quiet { noted = record usual { row = inputs 1 2 1 }; row = inputs 32768 128 8 }) dark dark ≡ event 9 81 1 ∷ event 9 82 16 ∷ event 9 89 2 ∷ event 9 90 8 ∷ event 9 102 4 ∷ event 9 104 1 ∷ []

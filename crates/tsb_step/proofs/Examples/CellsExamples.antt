@@ -1,6 +1,6 @@
 -- The cells of a controller in which much is going on: how many there are, where those of each layer are, and that they
 -- are read as what they say.
-use Rattle.std.specs.Prelude.{◌≡◌, ◌+◌, ◌==◌, if◌then◌else◌, [], ◌∷◌, length, slice_index, Some, None, refl}
+use Rattle.std.specs.Prelude.{true, ◌≡◌, ◌+◌, ◌==◌, if◌then◌else◌, [], ◌∷◌, length, slice_index, Some, None, refl}
 use Rattle.tsb_cells.specs.declared.timer.Timer.TheVariants.{Off, On}
 use Rattle.tsb_types.specs.declared.interval.Interval.TheVariants.{Yellow}
 use Rattle.tsb_types.specs.declared.lamp.Lamp.TheVariants as lamps
@@ -21,10 +21,13 @@ use Rattle.tsb_ring.specs.Rings.{Ring2}
 use Rattle.tsb_ring.specs.Cells.{rings_in}
 use Rattle.tsb_preempt.specs.Preempts as preempts
 use Rattle.tsb_preempt.specs.Cells.{service_in, preempts_in}
+use Rattle.tsb_overlap.specs.declared.parts.OverlapInterval.TheVariants as intervals
+use Rattle.tsb_overlap.specs.Overlap as overlap
+use Rattle.tsb_overlap.specs.Cells.{overlap_in}
 use Rattle.tsb_heads.specs.declared.monitor.Trip.TheVariants.{Conflict, GreenToRed}
 use Rattle.tsb_transact.specs.declared.desk_state.DeskState.TheVariants.{Transaction}
 use Rattle.tsb_transact.specs.Cells.{desk_in}
-use Rattle.tsb_step.specs.declared.first_cell.TheConstants.{DESK, DETECTORS, CALLS, PHASES, RINGS, COORD, PREEMPTS, MONITOR, ALL_CELLS}
+use Rattle.tsb_step.specs.declared.first_cell.TheConstants.{DESK, DETECTORS, CALLS, PHASES, RINGS, COORD, PREEMPTS, OVERLAPS, MONITOR, ALL_CELLS}
 use Rattle.tsb_step.specs.State.{State}
 use Rattle.tsb_step.specs.Cells.{cells_of, state_in, clock}
 use Rattle.tsb_step.specs.MonitorCells.{monitor_cells, lamp_in, trip_in}
@@ -55,6 +58,8 @@ busy = record {
   preempts = record preempts.at_power_up {
     service = Some (record { preempt = 4; stage = Exit; timer = On 40; stage_timer = Off });
   };
+  overlaps = λ o. if o == 16 then record { interval = intervals.Yellow; timer = On 9; phase = Some 4 } else overlap.at_power_up;
+  omitted = λ o. o == 3;
   lamp = Some (lamps.Phase 5 signals.Yellow);
   trip = Some (record { cause = Conflict 2 5; tick = 40 });
 }
@@ -65,8 +70,8 @@ how_many : length (cells_of busy) ≡ ALL_CELLS
 unfolding opened busy
 how_many = refl
 
-first_cells : DESK ∷ DETECTORS ∷ CALLS ∷ PHASES ∷ RINGS ∷ COORD ∷ PREEMPTS ∷ MONITOR ∷ ALL_CELLS ∷ [] ≡
-    2687 ∷ 2819 ∷ 3023 ∷ 3041 ∷ 3157 ∷ 3161 ∷ 3167 ∷ 3181 ∷ 3188 ∷ []
+first_cells : DESK ∷ DETECTORS ∷ CALLS ∷ PHASES ∷ RINGS ∷ COORD ∷ PREEMPTS ∷ OVERLAPS ∷ MONITOR ∷ ALL_CELLS ∷ [] ≡
+    2831 ∷ 2963 ∷ 3167 ∷ 3185 ∷ 3301 ∷ 3305 ∷ 3311 ∷ 3325 ∷ 3363 ∷ 3370 ∷ []
 first_cells = refl
 
 -- the plan: phaseEnabled of phase 8, and sequenceData at its index 20, which is phase 8
@@ -75,22 +80,22 @@ unfolding opened busy
 plan_cells_stand = refl
 
 -- the desk's owner, the last timer of the detectors, the last count, the cell of two lists, right of way and clearing
-ends_stand : slice_index (cells_of busy) 2687 ∷ slice_index (cells_of busy) 3040 ∷ slice_index (cells_of busy) 3041 ∷ [] ≡ 3 ∷ 5 ∷ 2147516416 ∷ []
+ends_stand : slice_index (cells_of busy) 2831 ∷ slice_index (cells_of busy) 3184 ∷ slice_index (cells_of busy) 3185 ∷ [] ≡ 3 ∷ 5 ∷ 2147516416 ∷ []
 unfolding opened busy
 ends_stand = refl
 
 -- the rings' side, the pattern, the preempt in service
-more_stand : slice_index (cells_of busy) 3159 ∷ slice_index (cells_of busy) 3161 ∷ slice_index (cells_of busy) 3177 ∷ [] ≡ 1 ∷ 2 ∷ 4 ∷ []
+more_stand : slice_index (cells_of busy) 3303 ∷ slice_index (cells_of busy) 3305 ∷ slice_index (cells_of busy) 3321 ∷ [] ≡ 1 ∷ 2 ∷ 4 ∷ []
 unfolding opened busy
 more_stand = refl
 
 -- since when the local counter comes into step, how far it was ahead then, and the midnight that it counts from
-its_counter_stands : slice_index (cells_of busy) 3162 ∷ slice_index (cells_of busy) 3163 ∷ slice_index (cells_of busy) 3164 ∷ [] ≡ 30 ∷ 7 ∷ 7164000 ∷ []
+its_counter_stands : slice_index (cells_of busy) 3306 ∷ slice_index (cells_of busy) 3307 ∷ slice_index (cells_of busy) 3308 ∷ [] ≡ 30 ∷ 7 ∷ 7164000 ∷ []
 unfolding opened busy
 its_counter_stands = refl
 
 -- tick number 0 was at 7:00 of 2000-01-01, which is day 8
-its_clock_stands : slice_index (cells_of busy) 3165 ∷ slice_index (cells_of busy) 3166 ∷ [] ≡ 8 ∷ 252000 ∷ []
+its_clock_stands : slice_index (cells_of busy) 3309 ∷ slice_index (cells_of busy) 3310 ∷ [] ≡ 8 ∷ 252000 ∷ []
 unfolding opened busy
 its_clock_stands = refl
 
@@ -136,6 +141,24 @@ ring_again : again.rings.commitment Ring2 ≡ Some 3
 unfolding opened busy
 ring_again = refl
 
+-- the list of the overlaps in yellow, that of omitted arrows, the tick at which the last began its yellow, and its phase
+overlaps_stand : slice_index (cells_of busy) 3328 ∷ slice_index (cells_of busy) 3330 ∷ slice_index (cells_of busy) 3346 ∷ slice_index (cells_of busy) 3362 ∷ [] ≡
+    32768 ∷ 4 ∷ 32 ∷ 4 ∷ []
+unfolding opened busy
+overlaps_stand = refl
+
+overlap_again : (again.overlaps 16).timer ≡ On 9
+unfolding opened busy overlap_in
+overlap_again = refl
+
+its_phase_again : (again.overlaps 16).phase ≡ Some 4
+unfolding opened busy overlap_in
+its_phase_again = refl
+
+omitted_again : again.omitted 3 ≡ true
+unfolding opened busy
+omitted_again = refl
+
 count_again : again.memories.count 16 ≡ 5
 unfolding opened busy
 count_again = refl
@@ -159,6 +182,9 @@ walk_lamp = refl
 
 overlap_lamp : lamp_in (monitor_cells (Some (lamps.Overlap 4 signals.Green)) None) ≡ Some (lamps.Overlap 4 signals.Green)
 overlap_lamp = refl
+
+arrow_lamp : lamp_in (monitor_cells (Some (lamps.Arrow 4)) None) ≡ Some (lamps.Arrow 4)
+arrow_lamp = refl
 
 red_trip : trip_in (monitor_cells None (Some (record { cause = GreenToRed 6; tick = 0 }))) ≡ Some (record { cause = GreenToRed 6; tick = 0 })
 red_trip = refl

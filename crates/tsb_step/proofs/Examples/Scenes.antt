@@ -14,14 +14,16 @@ use Rattle.tsb_objects.specs.tsb_plan.declared.object.Object.TheVariants.{PhaseP
 use Rattle.tsb_objects.specs.tsb_plan.Plan.{with_value, with_values}
 use Rattle.tsb_objects.specs.tsb_plan.Quad.{quad}
 use Rattle.tsb_objects.specs.tsb_rules.PatternRules.{coordinated_count, side_sum, split_end, split_sum}
-use Rattle.tsb_objects.specs.tsb_rules.Rules.{broken_by_extensions, broken_by_schedule, broken_by_parts, broken_by_phases, broken_by_rings, first_broken}
+use Rattle.tsb_objects.specs.tsb_rules.Rules.{broken_by_extensions, broken_by_schedule, broken_by_overlaps, broken_by_parts, broken_by_phases, broken_by_rings, first_broken}
 use Rattle.tsb_detect.specs.Detector as detector
 use Rattle.tsb_calls.specs.Callable.{has_conflict, is_callable}
 use Rattle.tsb_calls.specs.Memories as calls
 use Rattle.tsb_calls.specs.Memories.{Memories, actuations, counted, has_button, has_output, pedestrian_memory, vehicle_memory}
 use Rattle.tsb_coord.specs.Coordinated.{force_off}
-use Rattle.tsb_heads.specs.Monitoring.{conflict, conflict_of, green_to_red}
+use Rattle.tsb_heads.specs.Monitoring.{conflict, conflict_of, green_to_red, has_green_arrow}
 use Rattle.tsb_heads.specs.Overlaps.{is_kept_green, is_on_yellow, lasts, some_lasts}
+use Rattle.tsb_overlap.specs.Overlap as overlaps
+use Rattle.tsb_overlap.specs.Overlap.{is_held, may_flash, run_on, settled}
 use Rattle.tsb_phase.specs.DynamicMaximum.{maximum_in_use}
 use Rattle.tsb_phase.specs.Green.{cars_waiting, gap, initial, reduction_timer}
 use Rattle.tsb_phase.specs.Pedestrian.{pedestrian_now}
@@ -47,7 +49,7 @@ use Rattle.tsb_step.specs.Tick as tick
 
 -- what a computed example opens
 unfoldable pub opened : Unit {0}
-unfolding run_from quad coordinated_count side_sum split_end split_sum broken_by_extensions broken_by_schedule broken_by_parts broken_by_phases broken_by_rings first_broken has_conflict is_callable actuations counted has_button has_output pedestrian_memory vehicle_memory force_off conflict conflict_of green_to_red is_kept_green is_on_yellow lasts some_lasts given_up maximum_in_use cars_waiting gap initial reduction_timer pedestrian_now is_over is_ready red_revert_passed beginning dwell_ends new_service requesting all_green begins committed entry target_side moves clears completes ends new_commitment new_crossing new_last new_side next starting serving fits pick pick_of_ring_1 want want_of display field watched step verdict tick.moves tick.new_detectors tick.new_service tick.phases_given tick.rings_given tick.gives_up tick.new_rings
+unfolding run_from quad coordinated_count side_sum split_end split_sum broken_by_extensions broken_by_schedule broken_by_overlaps broken_by_parts broken_by_phases broken_by_rings first_broken has_conflict is_callable actuations counted has_button has_output pedestrian_memory vehicle_memory force_off conflict conflict_of green_to_red is_kept_green is_on_yellow lasts some_lasts has_green_arrow overlaps.next settled run_on may_flash is_held given_up maximum_in_use cars_waiting gap initial reduction_timer pedestrian_now is_over is_ready red_revert_passed beginning dwell_ends new_service requesting all_green begins committed entry target_side moves clears completes ends new_commitment new_crossing new_last new_side next starting serving fits pick pick_of_ring_1 want want_of display field watched step verdict tick.moves tick.new_detectors tick.new_service tick.phases_given tick.held tick.rings_given tick.gives_up tick.new_rings
 opened = tt
 
 -- ## Words

@@ -18,13 +18,13 @@ use Rattle.tsb_step.specs.declared.waits.Lack.TheVariants as lacks
 use Rattle.tsb_step.specs.declared.waits.Wait.TheVariants as waits
 use Rattle.tsb_step.specs.State.{State}
 use Rattle.tsb_step.specs.Tick.{moves}
-use Rattle.tsb_step.specs.Waits.{lack, phases_again, served, committed_wait, free_wait, wait, waits_for}
+use Rattle.tsb_step.specs.Waits.{lack, phases_again, served, holder, committed_wait, free_wait, wait, waits_for}
 use Rattle.tsb_step.proofs.Examples.Scenes as scenes
 use Rattle.tsb_step.proofs.Examples.Scenes.{all_red, at_barrier, called, clearing, coordinated, dwelling, green, red, resting, short, these, walking}
 
 -- what a computed line opens
 unfoldable pub opened : Unit {0}
-unfolding scenes.opened lack phases_again served committed_wait free_wait wait
+unfolding scenes.opened lack phases_again served holder committed_wait free_wait wait
 opened = scenes.opened
 
 -- ## Words
