@@ -10,7 +10,7 @@ use Rattle.tsb_transact.specs.Cells.{desk_in}
 use Rattle.tsb_transact.specs.Desk as desk
 use Rattle.tsb_transact.proofs.ToldLemmas.{rows_are_told}
 use Rattle.tsb_machine.proofs.PastLemmas.{sought-back}
-use Rattle.tsb_step.specs.Good.{IsGood}
+use Rattle.tsb_step.specs.Backed.{IsGoodInAll}
 use Rattle.tsb_step.specs.Past.{Whole, controller, ticks_of, undone, taken_back, earlier, sought, record_of}
 use Rattle.tsb_objects.specs.Checked.{checked_plan}
 use Rattle.tsb_objects.specs.declared.checked.Checked.{Checked}
@@ -18,7 +18,7 @@ use Rattle.tsb_step.specs.State.{State, start}
 use Rattle.tsb_step.specs.Step.{verdict, kind_of, last_tick}
 use Rattle.tsb_step.specs.declared.inputs.Input.{Input}
 use Rattle.tsb_step.specs.declared.inputs.Input.TheVariants as inputs
-use Rattle.tsb_step.proofs.GoodLemmas.{good_step, good_run}
+use Rattle.tsb_step.proofs.BackedLemmas.{all_started, all_step}
 use Rattle.tsb_step.proofs.PlaceLemmas.{memory_is_consistent}
 use Rattle.tsb_controller.specs.Whole.{All, AreAllBy, all_in, all_changes, all_put_back}
 use Rattle.tsb_controller.proofs.WholeLemmas.{records-joined, records-back}
@@ -75,7 +75,7 @@ module _ (i : Input) (now : ℕ) (old new : All) (entries : List (ℕ × ℕ)) (
     by = did.done.by;
     ranged = did.ranged;
     desk = did.desk;
-    good = subst IsGood (sym did.done.state) (good_step (all_in now old) i did.allowed held.good);
+    good = subst IsGoodInAll (sym did.done.state) (all_step (all_in now old) i did.allowed held.good);
   }
 
   can-undo : CanUndo (next_tick now i) (change_of i old new)
@@ -150,21 +150,21 @@ sound-ticks now a (r ∷ rs) h =
     omega arith
 
 -- each earlier state is good
-pub sound-earlier : (k now : ℕ) (a : All) (rs : List Change) → HasSoundPast now a rs → IsGood (earlier (record { state = all_in now a; records = rs }) k).state
+pub sound-earlier : (k now : ℕ) (a : All) (rs : List Change) → HasSoundPast now a rs → IsGoodInAll (earlier (record { state = all_in now a; records = rs }) k).state
 sound-earlier zero now a rs h = (sound-held now a rs h).good
 sound-earlier (suc k) now a [] h = sound-earlier k now a [] h
 sound-earlier (suc k) now a (r ∷ rs) h =
-    subst (λ (s : State). IsGood (earlier (record { state = s; records = rs }) k).state) (sym (back-said now a r h.0 h.1))
+    subst (λ (s : State). IsGoodInAll (earlier (record { state = s; records = rs }) k).state) (sym (back-said now a r h.0 h.1))
     (sound-earlier k (now - ticks_of r.kind) (all_put_back a r.entries) rs h.2)
 
 -- ## At power-up
 
 -- the state at power-up is good
-pub good-start : (checked : Checked) → IsGood (start (checked_plan checked))
+pub good-start : (checked : Checked) → IsGoodInAll (start (checked_plan checked))
 unfolding checked_plan
-good-start checked = good_run (checked_plan checked) [] (memory_is_consistent checked.plan checked.passed) tt
+good-start checked = all_started (checked_plan checked) (memory_is_consistent checked.plan checked.passed)
 
-pub sound-start : (a : All) (rs : List Change) → AreAllBy 0 a → AreInRange a.plan → desk.IsSoundDesk (desk_in a.desk) → IsGood (all_in 0 a) → rs ≡ [] → HasSoundPast 0 a rs
+pub sound-start : (a : All) (rs : List Change) → AreAllBy 0 a → AreInRange a.plan → desk.IsSoundDesk (desk_in a.desk) → IsGoodInAll (all_in 0 a) → rs ≡ [] → HasSoundPast 0 a rs
 sound-start a rs by ranged desk_sound good none = subst (λ (qs : List Change). HasSoundPast 0 a qs) (sym none)
     (record { limit = omega arith; by = by; ranged = ranged; desk = desk_sound; good = good }, refl)
 
@@ -228,6 +228,7 @@ of-tick kinds.Verify is = absurd (false≢true is)
 of-tick kinds.Commit is = absurd (false≢true is)
 of-tick kinds.Abort is = absurd (false≢true is)
 of-tick kinds.Clock is = absurd (false≢true is)
+of-tick kinds.Omit is = absurd (false≢true is)
 
 of-none : (es : List (ℕ × ℕ)) → has_none es ≡ true → es ≡ []
 of-none [] is = refl

@@ -1,10 +1,11 @@
 -- What the inputs do to the rows is what the one step does to the state in them.
-use Rattle.std.proofs.Common.{◌≡◌, ℕ, ◌+◌, ◌≤◌, List, [], ◌++◌, length, Option, Some, None, sym, ap, ap₂, subst, ◌∙◌, refl, arith, Bool, true, false, append-nil, append_assoc, ◌-◌, ◌==◌}
+use Rattle.std.proofs.Common.{◌≡◌, ℕ, ◌+◌, ◌<◌, ◌≤◌, nat_lt, List, [], ◌++◌, length, Option, Some, None, sym, ap, ap₂, subst, ◌∙◌, refl, arith, Bool, true, false, append-nil, append_assoc, ◌-◌, ◌==◌}
 use Rattle.std.proofs.lemmas.Bool.Decides.{nat_tests}
 use Rattle.std.specs.Prelude.{is_some, if◌then◌else◌, option_map, slice_index}
 use Rattle.tsb_cells.specs.Diff.{diff, shifted}
 use Rattle.tsb_cells.proofs.DiffLemmas.{diff-same}
 use Rattle.tsb_types.specs.declared.lamp.Lamp.{Lamp}
+use Rattle.tsb_types.specs.declared.refusal.Refusal.TheVariants.{OutOfRange}
 use Rattle.tsb_types.specs.declared.row.Row.{Row}
 use Rattle.tsb_types.proofs.OptionLemmas.{is-none}
 use Rattle.tsb_plan.specs.declared.object.TheConstants.{PLAN_CELLS}
@@ -15,11 +16,11 @@ use Rattle.tsb_transact.specs.Cells as desk_cells
 use Rattle.tsb_transact.specs.Cells.{desk_in}
 use Rattle.tsb_transact.specs.Desk.{Desk}
 use Rattle.tsb_step.specs.Cells.{clock_at}
-use Rattle.tsb_step.specs.Good.{IsGood}
+use Rattle.tsb_step.specs.Backed.{IsGoodInAll}
 use Rattle.tsb_step.specs.MonitorCells.{lamp_in, trip_in}
 use Rattle.tsb_step.specs.MonitorLaws.{IsMonitorBy}
 use Rattle.tsb_step.specs.State.{State, Tripped}
-use Rattle.tsb_step.specs.Step.{step, verdict, last_tick, ticked, with_lamp}
+use Rattle.tsb_step.specs.Step.{omit_refusal, step, verdict, last_tick, ticked, with_lamp}
 use Rattle.tsb_step.specs.declared.inputs.Input.{Input}
 use Rattle.tsb_step.specs.declared.inputs.Input.TheVariants as inputs
 use Rattle.tsb_step.proofs.MonitorLemmas as monitor
@@ -37,7 +38,7 @@ beside a = record { plan = plan_in a.plan; desk = desk_in a.desk; lamp = lamp_in
 
 -- rows that stayed have no changes
 pub no-changes : (r : Rows) → changes r r ≡ []
-no-changes r = rw (diff-same r.detectors, diff-same r.calls, diff-same r.phases, diff-same r.rings, diff-same r.pattern, diff-same r.preempts) refl
+no-changes r = rw (diff-same r.detectors, diff-same r.calls, diff-same r.phases, diff-same r.rings, diff-same r.pattern, diff-same r.preempts, diff-same r.overlaps) refl
 
 -- ## Inputs that leave the tick number
 
@@ -64,6 +65,14 @@ desk-done i now old new entries stays by new_by steps told =
       by = subst (λ (n : ℕ). AreAllBy n rows) (sym stays) (record { plan = by.plan; desk = new_by; layers = by.layers; monitor = by.monitor });
       entries_are = told ∙ sym (changes-desk old rows refl refl refl);
     }
+
+-- an action's list that is not refused names overlaps 1 to 16
+pub listed : (list : ℕ) → omit_refusal list ≡ None → list < 65536
+listed list allowed = go (nat_lt list 65536) refl allowed
+  where
+    go : (b : Bool) → nat_lt list 65536 ≡ b → (if b then None else Some OutOfRange) ≡ None → list < 65536
+    go true e h = grind (arith, nat_tests, e)
+    go false e h = absurd cc
 
 -- ## Ticks
 
@@ -115,13 +124,13 @@ untripped-by now (Some t) r none by = absurd cc
 
 -- what holds of every run holds of a controller that has not tripped, as its tick asks
 pub good-here : (now : ℕ) (a : All) (lamp : Option Lamp) (layers : Rows) → is_some (trip_in a.monitor) ≡ false → lamp ≡ lamp_in a.monitor → layers ≡ a.layers →
-    IsGood (all_in now a) → IsGood (state_of (now + 1 - 1) (untripped (plan_in a.plan) (desk_in a.desk) lamp) layers)
+    IsGoodInAll (all_in now a) → IsGoodInAll (state_of (now + 1 - 1) (untripped (plan_in a.plan) (desk_in a.desk) lamp) layers)
 good-here now a lamp layers calm lit same good =
     let back : now ≡ now + 1 - 1 = omega arith in
-    subst (λ (n : ℕ). IsGood (state_of n (untripped (plan_in a.plan) (desk_in a.desk) lamp) layers)) back
-    (subst (λ (l : Option Lamp). IsGood (state_of now (untripped (plan_in a.plan) (desk_in a.desk) l) layers)) (sym lit)
-    (subst (λ (r : Rows). IsGood (state_of now (untripped (plan_in a.plan) (desk_in a.desk) (lamp_in a.monitor)) r)) (sym same)
-    (subst (λ (t : Option Tripped). IsGood (state_of now (record { plan = plan_in a.plan; desk = desk_in a.desk; lamp = lamp_in a.monitor; trip = t }) a.layers))
+    subst (λ (n : ℕ). IsGoodInAll (state_of n (untripped (plan_in a.plan) (desk_in a.desk) lamp) layers)) back
+    (subst (λ (l : Option Lamp). IsGoodInAll (state_of now (untripped (plan_in a.plan) (desk_in a.desk) l) layers)) (sym lit)
+    (subst (λ (r : Rows). IsGoodInAll (state_of now (untripped (plan_in a.plan) (desk_in a.desk) (lamp_in a.monitor)) r)) (sym same)
+    (subst (λ (t : Option Tripped). IsGoodInAll (state_of now (record { plan = plan_in a.plan; desk = desk_in a.desk; lamp = lamp_in a.monitor; trip = t }) a.layers))
     (is-none (trip_in a.monitor) calm) good)))
 
 pub some-none : {A : Type 0} (o : Option A) → is_some o ≡ true → o ≡ None → ⊥

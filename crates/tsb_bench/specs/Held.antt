@@ -9,7 +9,7 @@ use Rattle.tsb_transact.specs.Desk as desk
 use Rattle.tsb_step.specs.declared.first_cell.TheConstants.{ALL_CELLS}
 use Rattle.tsb_controller.specs.Records.{HasFew}
 use Rattle.tsb_controller.specs.Whole.{All, AreAllBy, all_in, all_put_back}
-use Rattle.tsb_step.specs.Good.{IsGood}
+use Rattle.tsb_step.specs.Backed.{IsGoodInAll}
 use Rattle.tsb_step.specs.Past.{Whole, ticks_of}
 use Rattle.tsb_step.specs.State.{State}
 use Rattle.tsb_step.specs.Step.{last_tick}
@@ -48,7 +48,7 @@ pub record IsHeld (now : ℕ) (a : All) : Type 0 where
   pub by : AreAllBy now a
   pub ranged : AreInRange a.plan
   pub desk : desk.IsSoundDesk (desk_in a.desk)
-  pub good : IsGood (all_in now a)
+  pub good : IsGoodInAll (all_in now a)
 
 -- a record that can be taken back at tick number `now`
 pub record CanUndo (now : ℕ) (r : Change) : Type 0 where

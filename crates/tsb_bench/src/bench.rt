@@ -11,6 +11,7 @@ ghost use Rattle.tsb_types.specs.declared.refusal.Refusal.TheVariants.{Memory};
 ghost use Rattle.tsb_heads.specs.Promises.{IsSame};
 ghost use Rattle.tsb_heads.specs.Reading.{heads_of};
 ghost use Rattle.tsb_machine.specs.Play.{IsRefusal};
+ghost use Rattle.tsb_step.specs.Backed.{AreBacked, IsGoodInAll};
 ghost use Rattle.tsb_step.specs.Good.{IsGood};
 ghost use Rattle.tsb_step.specs.Past.{record_of, earlier, pasts, sought, ticks_of, IsLeastBack};
 ghost use Rattle.tsb_step.specs.Signs.{display, local, stage, IsSafe};
@@ -88,6 +89,7 @@ fn kind_of(input: &Input) -> Kind
         Input::Commit(_) => Kind::Commit,
         Input::Abort(_) => Kind::Abort,
         Input::Clock(_) => Kind::Clock,
+        Input::Omit(_) => Kind::Omit,
     }
 }
 
@@ -126,7 +128,7 @@ fn work(
     requires shut { IsShut cabinet.old }
     requires by { AreAllBy tick (rows_of cabinet.old) }
     requires limit { tick ≤ last_tick }
-    requires good { IsGood (all_in tick (rows_of cabinet.old)) }
+    requires good { IsGoodInAll (all_in tick (rows_of cabinet.old)) }
     requires allowed { verdict (all_in tick (rows_of cabinet.old)) input.now ≡ None }
     requires shown { IsShown (rows_of cabinet.old) shown.old }
     requires room { record_size (most_cells (kind_of input.now)) ≤ history.old.room }
@@ -180,6 +182,8 @@ impl Bench {
         ensures ticks { result ≡ ticks self.now.records }
         // The state and each earlier one are ones that runs lead to: the plan breaks no rule, and so on.
         ensures good { (k : ℕ) → IsGood (earlier (whole self.now) k).state }
+        // So are the overlaps that have intervals of their own: each is lit by phases, and so on.
+        ensures backed { (k : ℕ) → AreBacked (earlier (whole self.now) k).state }
     {
         self.tick
     }

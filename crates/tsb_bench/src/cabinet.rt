@@ -14,9 +14,9 @@ ghost use Rattle.tsb_types.specs.declared.refusal.Refusal.TheVariants.{Memory, T
 ghost use Rattle.tsb_transact.specs.Layer.{cells_of, is_open};
 ghost use Rattle.tsb_transact.specs.Rows.{IsRow};
 ghost use Rattle.tsb_transact.specs.declared.TheConstants.{CELLS as DESK_CELLS};
-ghost use Rattle.tsb_step.specs.Good.{IsGood};
+ghost use Rattle.tsb_step.specs.Backed.{IsGoodInAll};
 ghost use Rattle.tsb_step.specs.State.{start};
-ghost use Rattle.tsb_step.specs.Step.{verdict, last_tick, kind_of};
+ghost use Rattle.tsb_step.specs.Step.{verdict, omit_refusal, last_tick, kind_of};
 ghost use Rattle.tsb_step.specs.declared.TheConstants.{MONITOR_CELLS};
 ghost use Rattle.tsb_step.specs.declared.first_cell.TheConstants.{DESK, DETECTORS, MONITOR};
 ghost use Rattle.tsb_controller.specs.Layer as layers;
@@ -115,6 +115,7 @@ impl Cabinet {
             Input::Commit(station) => self.commit_refusal(*station),
             Input::Abort(station) => self.desk.abort_refusal(*station),
             Input::Clock(_) => None,
+            Input::Omit(list) => omit_refusal(*list),
         }
     }
 
@@ -125,7 +126,7 @@ impl Cabinet {
         requires shut { IsShut self.old }
         requires by { AreAllBy tick (rows_of self.old) }
         requires limit { tick ≤ last_tick }
-        requires good { IsGood (all_in tick (rows_of self.old)) }
+        requires good { IsGoodInAll (all_in tick (rows_of self.old)) }
         requires allowed { verdict (all_in tick (rows_of self.old)) input.now ≡ None }
         requires empty { out.old.items ≡ [] }
         ensures next { result ≡ next_tick tick input.now }
@@ -149,7 +150,7 @@ impl Cabinet {
         requires shut { IsShut self.old }
         requires by { AreAllBy tick (rows_of self.old) }
         requires limit { tick ≤ last_tick }
-        requires good { IsGood (all_in tick (rows_of self.old)) }
+        requires good { IsGoodInAll (all_in tick (rows_of self.old)) }
         requires allowed { verdict (all_in tick (rows_of self.old)) input.now ≡ None }
         requires empty { out.old.items ≡ [] }
         ensures next { result ≡ next_tick tick input.now }
@@ -174,6 +175,7 @@ impl Cabinet {
             Input::Commit(station) => self.commit(tick, *station, out),
             Input::Abort(station) => self.abort(tick, *station, out),
             Input::Clock(moment) => self.set_clock(tick, *moment, out),
+            Input::Omit(list) => self.omit(tick, *list, out),
         }
         tick
     }
@@ -332,5 +334,16 @@ fn tick_refusal(tick: u32) -> Option<Refusal>
         None
     } else {
         Some(Refusal::TickLimit)
+    }
+}
+
+/// Why a list of omitted arrows is refused.
+fn omit_refusal(list: u32) -> Option<Refusal>
+    ensures { result ≡ omit_refusal list }
+{
+    if list < 65536 {
+        None
+    } else {
+        Some(Refusal::OutOfRange)
     }
 }

@@ -3,7 +3,7 @@
 
 ghost use Rattle.std.specs.Prelude.{◌≡◌, ℕ, ◌+◌, ◌≤◌, [], None, true, is_some, IfSome};
 ghost use Rattle.arrayvec.specs.ArrayVec.{array_vec_len};
-ghost use Rattle.tsb_step.specs.Good.{IsGood};
+ghost use Rattle.tsb_step.specs.Backed.{IsGoodInAll};
 ghost use Rattle.tsb_step.specs.Step.{verdict, last_tick};
 ghost use Rattle.tsb_step.specs.declared.inputs.Input.TheVariants as inputs;
 ghost use Rattle.tsb_plan.specs.PlanOf.{plan_in};
@@ -16,7 +16,7 @@ ghost use Rattle.tsb_bench.specs.declared.cabinet.TheConstants.{MOST_CELLS};
 
 use crate::cabinet::{Cabinet, Changes};
 use tsb_heads::Trip;
-use tsb_objects::Row;
+use tsb_objects::{NumberSet, Row};
 use tsb_types::{ClockTime, Lamp};
 
 impl Cabinet {
@@ -25,7 +25,7 @@ impl Cabinet {
     pub(crate) fn tick(&mut self, tick: u32, row: &Row, out: &mut Changes)
         requires shut { IsShut self.old }
         requires by { AreAllBy tick (rows_of self.old) }
-        requires good { IsGood (all_in tick (rows_of self.old)) }
+        requires good { IsGoodInAll (all_in tick (rows_of self.old)) }
         requires allowed { verdict (all_in tick (rows_of self.old)) (inputs.Tick row.now) ≡ None }
         requires empty { out.old.items ≡ [] }
         ensures done { IsDone (inputs.Tick row.now) tick (rows_of self.old) (rows_of self.new) out.new.items }
@@ -79,6 +79,22 @@ impl Cabinet {
     {
         self.controller.open();
         self.controller.set_clock(moment, tick, &self.plan);
+        self.controller.close_onto(out);
+    }
+
+    /// Omits the arrows of a list, and lets others flash.
+    pub(crate) fn omit(&mut self, tick: u32, list: u32, out: &mut Changes)
+        requires shut { IsShut self.old }
+        requires by { AreAllBy tick (rows_of self.old) }
+        requires allowed { verdict (all_in tick (rows_of self.old)) (inputs.Omit list) ≡ None }
+        requires empty { out.old.items ≡ [] }
+        ensures done { IsDone (inputs.Omit list) tick (rows_of self.old) (rows_of self.new) out.new.items }
+        ensures few { array_vec_len out.new ≤ MOST_CELLS }
+        ensures shut { IsShut self.new }
+        ensures passing { self.new.passing ≡ self.old.passing }
+    {
+        self.controller.open();
+        self.controller.omit(NumberSet::from_list(list as u16));
         self.controller.close_onto(out);
     }
 

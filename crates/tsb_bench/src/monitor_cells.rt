@@ -89,6 +89,7 @@ fn lamp_row(lamp: &Option<Lamp>) -> [u32; 3]
         Some(Lamp::Overlap(overlap, color)) => {
             [3, u32::from(overlap.number()), signal_cell(*color)]
         }
+        Some(Lamp::Arrow(overlap)) => [4, u32::from(overlap.number()), 0],
     }
 }
 
@@ -149,7 +150,8 @@ impl MonitorCells {
             0 => None,
             1 => Some(Lamp::Phase(Phase::of(number as u8), signal_of(color))),
             2 => Some(Lamp::Pedestrian(Phase::of(number as u8), pedestrian_of(color))),
-            _ => Some(Lamp::Overlap(Overlap::of(number as u8), signal_of(color))),
+            3 => Some(Lamp::Overlap(Overlap::of(number as u8), signal_of(color))),
+            _ => Some(Lamp::Arrow(Overlap::of(number as u8))),
         }
     }
 

@@ -3,7 +3,7 @@
 
 ghost use Rattle.std.specs.Prelude.{◌≡◌, ◌≢◌, ◌+◌, ◌<◌, ◌≤◌, [], true, None};
 ghost use Rattle.arrayvec.specs.ArrayVec.{array_vec_len};
-ghost use Rattle.tsb_step.specs.Good.{IsGood};
+ghost use Rattle.tsb_step.specs.Backed.{IsGoodInAll};
 ghost use Rattle.tsb_step.specs.Step.{verdict};
 ghost use Rattle.tsb_step.specs.declared.inputs.Input.TheVariants as inputs;
 ghost use Rattle.tsb_controller.specs.Passing.{ends_before_phases};
@@ -92,7 +92,7 @@ impl Cabinet {
     pub(crate) fn work_tick(&mut self, tick: u32, row: &Row, out: &mut Changes)
         requires shut { IsShut self.old }
         requires by { AreAllBy tick (rows_of self.old) }
-        requires good { IsGood (all_in tick (rows_of self.old)) }
+        requires good { IsGoodInAll (all_in tick (rows_of self.old)) }
         requires allowed { verdict (all_in tick (rows_of self.old)) (inputs.Tick row.now) ≡ None }
         requires empty { out.old.items ≡ [] }
         ensures done { IsDone (inputs.Tick row.now) tick (rows_of self.old) (rows_of self.new) out.new.items }

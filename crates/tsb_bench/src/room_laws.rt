@@ -5,8 +5,8 @@ ghost use Rattle.tsb_bench.specs.Room.{RoomLasts};
 /// each change at most k cells is refused as out of memory. It follows from four clauses of `Bench::apply`: `few`,
 /// `wanting`, `room`, `err`.
 ///
-/// Mistake: records counted without their kind and the number of their entries, `entries_size` (`asks_4434`,
-/// `would_ask_4428`, `leaves_2211`, `would_lack_room`).
+/// Mistake: records counted without their kind and the number of their entries, `entries_size` (`asks_4890`,
+/// `would_ask_4884`, `leaves_2439`, `would_lack_room`).
 /// Witness: `keep_room` of Mistakes, a reset of a controller that has not tripped.
 pub fn room_lasts()
     ensures { RoomLasts }

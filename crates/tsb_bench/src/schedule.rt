@@ -1,7 +1,8 @@
-//! The action of the schedule that is in force.
+//! The action of the schedule that is in force, and the arrows that are omitted.
 #![tactic(auto, unfolding(tsb_objects::specs::Checked::checked_plan, tsb_plan::specs::PlanOf::plan_of))]
 
-ghost use Rattle.std.specs.Prelude.{◌≡◌, ◌≤◌, ◌+◌, ◌/◌, false, IfSome};
+ghost use Rattle.std.specs.Prelude.{◌≡◌, ℕ, ◌≤◌, ◌+◌, ◌/◌, false, IfSome};
+ghost use Rattle.tsb_types.specs.Sets.{has_number};
 ghost use Rattle.tsb_step.specs.Following.{action};
 ghost use Rattle.tsb_step.specs.Step.{last_tick};
 ghost use Rattle.tsb_controller.specs.Whole.{AreAllBy, all_in};
@@ -11,6 +12,7 @@ ghost use Rattle.tsb_bench.specs.Schedule.{StaysInMinute};
 
 use crate::bench::Bench;
 use crate::cabinet::Cabinet;
+use tsb_objects::NumberSet;
 use tsb_plan::MINUTE;
 
 impl Cabinet {
@@ -52,6 +54,13 @@ impl Bench {
         ensures to { IfSome result (λ a. a ≤ 32) }
     {
         self.cabinet.action(self.tick)
+    }
+
+    /// The arrows that are omitted.
+    pub fn omitted_arrows(&self) -> NumberSet
+        ensures { (o : ℕ) → has_number result o ≡ (state_of self.now).omitted o }
+    {
+        self.cabinet.controller.omitted_arrows()
     }
 
     /// Whether the next tick is the last of a minute of the clock, where one is set. The action in force can become

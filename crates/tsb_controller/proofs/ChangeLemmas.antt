@@ -5,7 +5,8 @@ use Rattle.tsb_cells.proofs.DiffLemmas.{AreWithin-diff, apply_diff-diff, diff-sa
 use Rattle.tsb_detect.proofs.ToldLemmas.{detectors-later}
 use Rattle.tsb_phase.proofs.ReadLemmas as phases
 use Rattle.tsb_preempt.proofs.ReadLemmas as preempts
-use Rattle.tsb_step.specs.declared.first_cell.TheConstants.{DESK, DETECTORS, CALLS, PHASES, RINGS, COORD, PREEMPTS, MONITOR, ALL_CELLS}
+use Rattle.tsb_overlap.proofs.CellLemmas as overlaps
+use Rattle.tsb_step.specs.declared.first_cell.TheConstants.{DESK, DETECTORS, CALLS, PHASES, RINGS, COORD, PREEMPTS, OVERLAPS, MONITOR, ALL_CELLS}
 use Rattle.tsb_controller.specs.Records.{changes}
 use Rattle.tsb_controller.specs.Rows.{Rows}
 use Rattle.tsb_controller.specs.Whole.{All, AreAllBy, whole, all_changes, all_put_back, RowsGoBack, EntriesAreWithin, ChangesAreFew, RowsStay, NothingDiffers, ChangesOfTheLayers, ChangesOfTheDesk, ChangesOfACommit}
@@ -41,6 +42,7 @@ rows-stay m n r later by = record {
   rings = by.rings;
   pattern = by.pattern;
   preempts = preempts.stays-by m n r.preempts later by.preempts;
+  overlaps = overlaps.rows-later m n r.overlaps later by.overlaps;
 }
 
 -- ## Rows that stayed
@@ -62,7 +64,8 @@ layers-none r s same =
     (ap₂ joined (shifted-none PHASES _ _ (ap (λ (x : Rows). x.phases) same))
     (ap₂ joined (shifted-none RINGS _ _ (ap (λ (x : Rows). x.rings) same))
     (ap₂ joined (shifted-none COORD _ _ (ap (λ (x : Rows). x.pattern) same))
-    (shifted-none PREEMPTS _ _ (ap (λ (x : Rows). x.preempts) same))))))
+    (ap₂ joined (shifted-none PREEMPTS _ _ (ap (λ (x : Rows). x.preempts) same))
+    (shifted-none OVERLAPS _ _ (ap (λ (x : Rows). x.overlaps) same)))))))
 
 pub changes-layers : ChangesOfTheLayers
 changes-layers a b plan desk =

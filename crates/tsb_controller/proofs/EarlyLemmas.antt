@@ -4,7 +4,7 @@ use Rattle.std.proofs.lemmas.Bool.Decides.{nat_tests}
 use Rattle.std.specs.Bool.{⊤}
 use Rattle.tsb_cells.specs.Diff.{diff, apply_diff, shifted}
 use Rattle.tsb_cells.proofs.DiffLemmas.{apply_diff-diff}
-use Rattle.tsb_step.specs.declared.first_cell.TheConstants.{DETECTORS, CALLS, PHASES, RINGS, COORD, PREEMPTS}
+use Rattle.tsb_step.specs.declared.first_cell.TheConstants.{DETECTORS, CALLS, PHASES, RINGS, COORD, PREEMPTS, OVERLAPS}
 use Rattle.tsb_controller.specs.Passing.{ends_before_phases, is_before_phases, EarlyRecordsLeavePhases}
 
 -- ## Entries from a cell on
@@ -74,15 +74,18 @@ early-leave m n old new was is before =
     let rings_changed : List (ℕ × ℕ) = shifted RINGS (diff old.rings new.rings) in
     let pattern_changed : List (ℕ × ℕ) = shifted COORD (diff old.pattern new.pattern) in
     let preempts_changed : List (ℕ × ℕ) = shifted PREEMPTS (diff old.preempts new.preempts) in
-    let from : AreFrom PHASES (phases_changed ++ (rings_changed ++ (pattern_changed ++ preempts_changed))) =
+    let overlaps_changed : List (ℕ × ℕ) = shifted OVERLAPS (diff old.overlaps new.overlaps) in
+    let from : AreFrom PHASES (phases_changed ++ (rings_changed ++ (pattern_changed ++ (preempts_changed ++ overlaps_changed)))) =
     append-from PHASES phases_changed _ (shifted-from PHASES PHASES (diff old.phases new.phases) (omega arith))
     (append-from PHASES rings_changed _ (shifted-from PHASES RINGS (diff old.rings new.rings) (omega arith))
     (append-from PHASES pattern_changed _ (shifted-from PHASES COORD (diff old.pattern new.pattern) (omega arith))
-    (shifted-from PHASES PREEMPTS (diff old.preempts new.preempts) (omega arith)))) in
-    let after_calls : phases_changed ++ (rings_changed ++ (pattern_changed ++ preempts_changed)) ≡ [] =
+    (append-from PHASES preempts_changed _ (shifted-from PHASES PREEMPTS (diff old.preempts new.preempts) (omega arith))
+    (shifted-from PHASES OVERLAPS (diff old.overlaps new.overlaps) (omega arith))))) in
+    let after_calls : phases_changed ++ (rings_changed ++ (pattern_changed ++ (preempts_changed ++ overlaps_changed))) ≡ [] =
     none-from _ from (rest-before (shifted CALLS (diff old.calls new.calls)) _ (rest-before (shifted DETECTORS (diff old.detectors new.detectors)) _ before)) in
-    let after_phases : rings_changed ++ (pattern_changed ++ preempts_changed) ≡ [] = rest-none phases_changed _ after_calls in
-    let after_rings : pattern_changed ++ preempts_changed ≡ [] = rest-none rings_changed _ after_phases in
+    let after_phases : rings_changed ++ (pattern_changed ++ (preempts_changed ++ overlaps_changed)) ≡ [] = rest-none phases_changed _ after_calls in
+    let after_rings : pattern_changed ++ (preempts_changed ++ overlaps_changed) ≡ [] = rest-none rings_changed _ after_phases in
+    let after_pattern : preempts_changed ++ overlaps_changed ≡ [] = rest-none pattern_changed _ after_rings in
     let phases : old.phases ≡ new.phases =
     same-cells PHASES old.phases new.phases (was.phases.full ∙ sym is.phases.full) (first-none phases_changed _ after_calls) in
     let rings : old.rings ≡ new.rings =
@@ -90,7 +93,9 @@ early-leave m n old new was is before =
     let pattern : old.pattern ≡ new.pattern =
     same-cells COORD old.pattern new.pattern (was.pattern.full ∙ sym is.pattern.full) (first-none pattern_changed _ after_rings) in
     let preempts : old.preempts ≡ new.preempts =
-    same-cells PREEMPTS old.preempts new.preempts (was.preempts.full ∙ sym is.preempts.full) (rest-none pattern_changed _ after_rings) in
+    same-cells PREEMPTS old.preempts new.preempts (was.preempts.full ∙ sym is.preempts.full) (first-none preempts_changed _ after_pattern) in
+    let overlaps : old.overlaps ≡ new.overlaps =
+    same-cells OVERLAPS old.overlaps new.overlaps (was.overlaps.full ∙ sym is.overlaps.full) (rest-none preempts_changed _ after_pattern) in
     λ i. record {
       detectors = old.detectors;
       calls = old.calls;
@@ -98,4 +103,5 @@ early-leave m n old new was is before =
       rings = rings i;
       pattern = pattern i;
       preempts = preempts i;
+      overlaps = overlaps i;
     }

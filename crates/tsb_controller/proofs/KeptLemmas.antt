@@ -2,7 +2,7 @@
 -- memory and count no vehicle.
 use Rattle.std.proofs.Common.{◌≡◌, ℕ, ◌+◌, ◌-◌, ◌≤◌, min, Bool, true, false, not, ◌&&◌, ◌||◌, if◌then◌else◌, List, Option, is_some, is_none, refl, sym, ap, subst, ◌∙◌, inl, inr, arith}
 use Rattle.std.proofs.Math.Path.{fun_ext}
-use Rattle.std.proofs.lemmas.Bool.{cases_Bool, true≢false}
+use Rattle.std.proofs.lemmas.Bool.{and_parts, cases_Bool, true≢false}
 use Rattle.tsb_step.specs.tsb_types.declared.flow.Called.{Called}
 use Rattle.tsb_step.specs.tsb_types.declared.lamp.Lamp.{Lamp}
 use Rattle.tsb_step.specs.tsb_types.declared.row.Row.{Row}
@@ -32,7 +32,7 @@ use Rattle.tsb_preempt.specs.Service.{service_as_read}
 use Rattle.tsb_transact.specs.Desk.{Desk}
 use Rattle.tsb_step.specs.State.{State, interval}
 use Rattle.tsb_step.specs.Tick as tick
-use Rattle.tsb_step.specs.Tick.{preempts_given, calls_given, phases_given, rings_given, new_detectors, over, walks_again, omitted, service_ended, moves, moved, done, next}
+use Rattle.tsb_step.specs.Tick.{preempts_given, calls_given, phases_given, rings_given, new_detectors, over, lets_go, walks_again, omitted, service_ended, moves, moved, done, next}
 use Rattle.tsb_step.proofs.ClipLemmas.{clipped_holds}
 use Rattle.tsb_controller.specs.declared.values.Sensed.{Sensed}
 use Rattle.tsb_controller.specs.Found.{observed}
@@ -107,7 +107,7 @@ module _ (now : ℕ) (plan : Plan) (desk : Desk) (lamp : Option Lamp) (row : Row
   clears_none p = clears-off now plan r.phases (phases_given s row) (moved s row) p one by.phases (phase_now p) overs
     where
       overs : is_cleared (moves s row) p ≡ true → over s p ≡ true
-      overs on = clipped_holds (over s) p (clears_over plan (rings_in r.rings) (rings_given s row) p on)
+      overs on = (and_parts (over s p) (not (tick.held s row p)) (clipped_holds (lets_go s row) p (clears_over plan (rings_in r.rings) (rings_given s row) p on))).0
 
   walks_none : (p : ℕ) → clipped (walks_again s row) p ≡ false
   walks_none p = elim (cases_Bool (clipped (walks_again s row) p)) [

@@ -3,6 +3,7 @@ pub mod WaitTellLemmas
 pub mod StatusSetLemmas
 mod CarryLemmas
 mod PlacedLemmas
+pub mod OverlapLemmas
 mod MovesLemmas
 mod TickLemmas
 mod LaterLemmas

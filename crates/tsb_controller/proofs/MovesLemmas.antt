@@ -1,11 +1,13 @@
 -- The moves that the rings decide may be carried out: both rings move different phases, of 1 to 16, and clear only what has
 -- cleared in time.
-use Rattle.std.proofs.Common.{◌≡◌, ℕ, Bool, true, false, ◌&&◌, if◌then◌else◌, List, Option, Some, None, refl, sym, inl, inr, subst}
+use Rattle.std.proofs.Common.{◌≡◌, ℕ, Bool, true, false, not, ◌&&◌, ◌∙◌, if◌then◌else◌, List, Option, Some, None, refl, sym, inl, inr, subst}
 use Rattle.std.proofs.lemmas.Bool.{true≢false, and_parts}
 use Rattle.tsb_step.specs.tsb_types.declared.flow.Moves.{Moves}
+use Rattle.tsb_step.specs.tsb_types.declared.flow.Timing.{Timing}
+use Rattle.tsb_step.specs.tsb_types.declared.phase_set.PhaseSet.{PhaseSet}
 use Rattle.tsb_step.specs.tsb_types.Intervals.{in_service}
 use Rattle.tsb_step.specs.tsb_types.Lists.{is}
-use Rattle.tsb_step.specs.tsb_types.Sets.{is_phase}
+use Rattle.tsb_step.specs.tsb_types.Sets.{has, is_phase}
 use Rattle.tsb_step.proofs.tsb_types.ClipLemmas.{IsAmong, among_16}
 use Rattle.tsb_step.specs.tsb_plan.Plan.{Plan, phases}
 use Rattle.tsb_phase.specs.declared.conditions.Conditions as phase_conditions
@@ -21,6 +23,7 @@ use Rattle.tsb_ring.proofs.MoveLemmas.{or_cases, is-Some, clears_over}
 use Rattle.tsb_ring.proofs.ClaimLemmas.{one_ring}
 use Rattle.tsb_ring.proofs.WaitLemmas.{first-passes}
 use Rattle.tsb_controller.specs.Carried.{AreApart}
+use Rattle.tsb_controller.specs.Found.{IsHeldBack}
 use Rattle.tsb_controller.proofs.PlacedLemmas.{IsPlaced, within}
 
 passed : (test : ℕ → Bool) (o : Option ℕ) (p : ℕ) → is p (if_passes test o) ≡ true → o ≡ Some p
@@ -59,9 +62,10 @@ pub apart : (plan : Plan) (c : ring_conditions.RingConditions) (row : List ℕ) 
 apart plan c row m decided = subst AreApart (sym decided) (moves-apart plan (rings_in row) (given_of plan c))
 
 -- what the rings clear may be cleared once the times of phases have run
-pub clearing : (now : ℕ) (plan : Plan) (k : phase_conditions.Conditions) (c : ring_conditions.RingConditions) (row old timed : List ℕ) (m : Moves) → IsPlaced plan → IsBy row →
-    IsDecided plan c row m → IsTicked now k plan old timed → TellsOver now plan old c.timing → (p : ℕ) → is_cleared m p ≡ true → IsClearing p timed
-clearing now plan k c row old timed m ok by decided ticked over p on =
+pub clearing : (now : ℕ) (plan : Plan) (k : phase_conditions.Conditions) (c : ring_conditions.RingConditions) (row old timed : List ℕ) (own : Timing) (held : PhaseSet) (m : Moves) → IsPlaced plan → IsBy row →
+    IsDecided plan c row m → IsTicked now k plan old timed → TellsOver now plan old own → IsHeldBack held own c.timing → (p : ℕ) → is_cleared m p ≡ true → IsClearing p timed
+clearing now plan k c row old timed own held m ok by decided ticked over back p on =
     let here : is_cleared (moves plan (rings_in row) (given_of plan c)) p ≡ true = subst (λ (x : Moves). is_cleared x p ≡ true) decided on in
     let i : IsAmong p = among_16 p (cleared-phase plan (rings_in row) (given_of plan c) (within plan row ok by) p here) in
-    overs-may_clear now k plan old timed c.timing ticked over p i.from i.to (clears_over plan (rings_in row) (given_of plan c) p here)
+    let let_go : has c.timing.over p ≡ true = clears_over plan (rings_in row) (given_of plan c) p here in
+    overs-may_clear now k plan old timed own ticked over p i.from i.to (and_parts (has own.over p) (not (has held p)) (sym (back.over p) ∙ let_go)).0

@@ -6,7 +6,7 @@ use Rattle.std.proofs.lemmas.Bool.{cases_Bool}
 use Rattle.std.proofs.lemmas.Bool.Decides.{nat_tests}
 use Rattle.tsb_cells.specs.declared.timer.Timer.{Timer}
 use Rattle.tsb_cells.specs.declared.timer.Timer.TheVariants.{Off}
-use Rattle.tsb_step.specs.tsb_types.declared.limits.TheConstants.{PREEMPTS}
+use Rattle.tsb_step.specs.tsb_types.declared.limits.TheConstants.{OVERLAPS, PREEMPTS}
 use Rattle.tsb_step.specs.tsb_types.declared.flow.Called.{Called}
 use Rattle.tsb_step.specs.tsb_types.declared.flow.Moves.{Moves}
 use Rattle.tsb_step.specs.tsb_types.declared.flow.Orders.{Orders}
@@ -17,7 +17,6 @@ use Rattle.tsb_step.specs.tsb_types.declared.row.Row.{Row}
 use Rattle.tsb_step.specs.tsb_types.Clip.{Agree, clipped, within}
 use Rattle.tsb_step.specs.tsb_types.Flow.{interval_of}
 use Rattle.tsb_step.specs.tsb_types.Intervals.{is_green}
-use Rattle.tsb_step.specs.tsb_types.Lists.{run_from}
 use Rattle.tsb_step.specs.tsb_types.Sets.{has, has_detector, has_number, is_phase}
 use Rattle.tsb_step.proofs.tsb_types.ClipLemmas.{among_16, clipped-agrees, clipped-same, within-agrees}
 use Rattle.tsb_step.specs.tsb_plan.Plan.{Plan}
@@ -51,9 +50,7 @@ use Rattle.tsb_ring.specs.Next as rings_next
 use Rattle.tsb_ring.specs.GivenUp.{given_up}
 use Rattle.tsb_ring.specs.Rings as ring_words
 use Rattle.tsb_ring.specs.Rings.{Ring1, Ring2, number}
-use Rattle.tsb_heads.specs.Heads.{Shown}
 use Rattle.tsb_heads.specs.Laws as heads_laws
-use Rattle.tsb_heads.specs.Overlaps.{lasts, some_lasts}
 use Rattle.tsb_heads.specs.Reading.{commitment_of}
 use Rattle.tsb_heads.proofs.OwnLemmas.{some_lasts-same}
 use Rattle.tsb_coord.specs.Cells.{pattern_in, correction_in, start_in}
@@ -70,18 +67,31 @@ use Rattle.tsb_transact.specs.Desk.{Desk}
 use Rattle.tsb_step.specs.State.{State, interval, pedestrian_part}
 use Rattle.tsb_step.specs.Signs.{is_lasting, shown as shown_of}
 use Rattle.tsb_step.specs.Tick as tick
-use Rattle.tsb_step.specs.Tick.{preempts_given, calls_given, phases_given, rings_given, new_detectors, callable, ready, over, reverted, gapped, walks_again, runs, hold, omitted, forced, recycle, service, service_ended, target, moves, after_moves, gives_up, new_rings, moved, done, next}
+use Rattle.tsb_step.specs.Tick.{preempts_given, calls_given, phases_given, rings_given, new_detectors, callable, ready, over, held, lets_go, reverted, gapped, walks_again, runs, hold, omitted, forced, recycle, service, service_ended, target, moves, after_moves, gives_up, new_rings, overlaps_given, moved, done, next}
+use Rattle.tsb_overlap.specs.Cells.{omitted_in, overlap_in}
+use Rattle.tsb_overlap.specs.Laws.{AreAlike}
+use Rattle.tsb_overlap.specs.Overlap as overlap_words
+use Rattle.tsb_overlap.specs.Overlap.{Overlap, as_read as overlap_as_read, run_on, settled as overlap_settled}
+use Rattle.tsb_overlap.specs.Promises as overlaps
+use Rattle.tsb_overlap.specs.Reading.{given_by}
+use Rattle.tsb_overlap.proofs.OwnLemmas.{settled-same, ticks-as_next, untimed-free, untimed-runs, untimed-settles}
 use Rattle.tsb_controller.specs.Found.{observed}
-use Rattle.tsb_controller.specs.Passing.{ArePhasesStill, AreOthersStill, IsSettled, NoneRose}
+use Rattle.tsb_controller.specs.Passing.{ArePhasesStill, AreOthersStill, AreOverlapsQuiet, IsSettled, NoneRose}
 use Rattle.tsb_controller.specs.Promises.{IsTicked}
 use Rattle.tsb_controller.specs.Rows.{Rows, AreBy, untripped, state_of}
+use Rattle.tsb_controller.proofs.OverlapLemmas.{held-same, interval-any, read-on}
 use Rattle.tsb_controller.proofs.PlacedLemmas.{IsPlaced}
-use Rattle.tsb_controller.proofs.TickLemmas.{green-set, timer-read, called-green, stays}
+use Rattle.tsb_controller.proofs.TickLemmas.{green-set, timer-read, called-green, stays, unlit}
 use Rattle.tsb_controller.proofs.CarryLemmas.{same-interval}
 use Rattle.tsb_phase.proofs.StateLemmas.{outside as at-rest}
 use Rattle.tsb_controller.proofs.ChangeLemmas.{rows-stay}
 use Rattle.tsb_controller.proofs.KeptLemmas as kept
 use Rattle.tsb_controller.proofs.LaterLemmas.{part-at, output-at, actuated-at, output_in, actuated_in, number_of, number-at, wanted-at, not-ended, set-has, timing_of}
+
+-- a preempt is in service where its number is there
+served-number : (n : Option Service) → is_some n ≡ is_some (number_of n)
+served-number None = refl
+served-number (Some x) = refl
 
 -- ## No output rose
 
@@ -327,6 +337,47 @@ module _ (now t : ℕ) (plan : Plan) (desk : Desk) (lamp : Option Lamp) (row : R
   told : (p : ℕ) → 1 ≤ p → p ≤ 16 → IsToldTheSame plan (phases.given_of a.conditions) (phases_given s row) p
   told p from to = looks_only plan (phases.given_of a.conditions) (phases_given s row) placed.count phases_alike p from to
 
+  -- ### Overlaps
+
+  -- what they saw in tick `now`
+  seen_now : (f : AreOverlapsQuiet now plan r soon) → AreAlike (given_by now f.seen (omitted_in r.overlaps) unlit) (overlaps_given s row)
+  unfolding tick.new_service preempts_words.new_service
+  seen_now f = record {
+    was_green = λ p from to. ap (λ (set : PhaseSet). has set p) f.seen_are.was_green_is ∙ green-set f.intervals p ∙ ap is_green (f.shown (now - 1) p from to);
+    interval = λ p from to. f.seen_are.intervals_are now p from to ∙ ap (λ (x : State). interval x p) here;
+    pedestrian = λ p from to. f.seen_are.pedestrians_are now p from to ∙ ap (λ (x : State). pedestrian_part x p) here;
+    commitment = λ n. ap₂ (λ (a b : Option ℕ). commitment_of a b n) (f.seen_are.first_is ∙ ap (λ (x : State). x.rings.commitment Ring1) here)
+        (f.seen_are.second_is ∙ ap (λ (x : State). x.rings.commitment Ring2) here);
+    timer = λ p from to. f.seen_are.since_are now p from to ∙ ap (λ (x : State). (x.phases p).timer) here;
+    preempted = f.seen_are.preempted_is ∙ f.served now ∙ ap (λ (x : Preempts). is_some x.service) preempts_now ∙ served-number _;
+    omitted = λ n from to. refl;
+  }
+
+  -- and it left them as they were
+  standing : (f : AreOverlapsQuiet now plan r soon) → overlaps.AreStanding now (given_by now f.seen (omitted_in r.overlaps) unlit) plan r.overlaps
+  unfolding overlap_words.next
+  standing f n from to =
+      settled-same plan (given_by now f.seen (omitted_in r.overlaps) unlit) (overlaps_given s row) placed.count (seen_now f) n from to _
+      ∙ ap (λ (b : Bool). overlap_settled plan (overlaps_given s row) n (run_on plan b n (overlap_as_read (overlap_in (now - 1) r.overlaps n)))) (seen_now f).preempted
+      ∙ sym (ap (λ (x : State). x.overlaps n) here)
+
+  quiet-at : (f : AreOverlapsQuiet now plan r soon) (n : ℕ) → now ≤ n → n < soon → overlaps.AreQuiet n (given_by n f.seen (omitted_in r.overlaps) unlit) plan r.overlaps
+  quiet-at f n later early = f.quiet n unlit later early (standing f)
+
+  -- in which interval each begins a tick
+  begins-in : (f : AreOverlapsQuiet now plan r soon) (k : ℕ) → now ≤ k → k < soon → (n : ℕ) → 1 ≤ n → n ≤ OVERLAPS →
+      (run_on plan f.seen.is_preempted n (overlap_as_read (overlap_in (k - 1) r.overlaps n))).interval ≡ (overlap_in now r.overlaps n).interval
+  begins-in f k later early n from to =
+      ap (λ (x : Overlap). x.interval) (sym ((quiet-at f k later early).runs n from to)) ∙ interval-any k now r.overlaps n
+
+  held-quiet : (f : AreOverlapsQuiet now plan r soon) (p : ℕ) →
+      overlap_words.is_held plan (is_some (service u row)) (overlap_in (t - 1) r.overlaps) p ≡ overlap_words.is_held plan (is_some (service s row)) (overlap_in (now - 1) r.overlaps) p
+  held-quiet f p =
+      ap (λ (b : Bool). overlap_words.is_held plan b (overlap_in (t - 1) r.overlaps) p) (ap is_some service_same ∙ sym (seen_now f).preempted)
+      ∙ held-same plan f.seen.is_preempted (overlap_in (t - 1) r.overlaps) (overlap_in (now - 1) r.overlaps) p placed.overlaps
+      (λ n from to. begins-in f t (omega arith) sooner n from to ∙ sym (begins-in f now (omega arith) (omega arith) n from to))
+      ∙ ap (λ (b : Bool). overlap_words.is_held plan b (overlap_in (now - 1) r.overlaps) p) (seen_now f).preempted
+
   -- ### What phase timing finds
 
   abbrev tells : Timing
@@ -361,6 +412,19 @@ module _ (now t : ℕ) (plan : Plan) (desk : Desk) (lamp : Option Lamp) (row : R
       sym (a.over t behind before tells (set-has (λ q. timing.is_over plan q (read_in now r.phases q))) p from to)
       ∙ set-has (λ q. timing.is_over plan q (read_in now r.phases q)) p from to
 
+  -- whoever is held in clearance was so in tick `now`
+  held_agree : Agree (held u row) (held s row)
+  unfolding held
+  held_agree p from to = elim o.overlaps [
+    | inl none ↦
+        untimed-free plan (is_some (service u row)) (overlap_in (t - 1) r.overlaps) p none
+        ∙ sym (untimed-free plan (is_some (service s row)) (overlap_in (now - 1) r.overlaps) p none)
+    | inr some ↦ held-quiet some p
+  ]
+
+  let_go_agree : Agree (lets_go u row) (lets_go s row)
+  let_go_agree p from to = ap₂ (λ (a b : Bool). a && not b) (over_agree p from to) (held_agree p from to)
+
   reverted_agree : Agree (reverted u) (reverted s)
   reverted_agree p from to =
       sym (a.reverted t behind before tells (set-has (λ q. timing.red_revert_passed plan q (read_in now r.phases q))) p from to)
@@ -375,8 +439,8 @@ module _ (now t : ℕ) (plan : Plan) (desk : Desk) (lamp : Option Lamp) (row : R
   walks_same : clipped (walks_again u row) ≡ clipped (walks_again s row)
   walks_same = clipped-same (walks_again u row) (walks_again s row) walks_agree
 
-  over_same : clipped (over u) ≡ clipped (over s)
-  over_same = clipped-same (over u) (over s) over_agree
+  let_go_same : clipped (lets_go u row) ≡ clipped (lets_go s row)
+  let_go_same = clipped-same (lets_go u row) (lets_go s row) let_go_agree
 
   reverted_same : clipped (reverted u) ≡ clipped (reverted s)
   reverted_same = clipped-same (reverted u) (reverted s) reverted_agree
@@ -391,7 +455,7 @@ module _ (now t : ℕ) (plan : Plan) (desk : Desk) (lamp : Option Lamp) (row : R
     callable = clipped (called_words.is_callable plan (calls_same i) (set_same i));
     omitted = clipped (omitted s);
     ready = ready_same i;
-    over = over_same i;
+    over = let_go_same i;
     reverted = reverted_same i;
     target = target_same i;
   }
@@ -449,28 +513,15 @@ module _ (now t : ℕ) (plan : Plan) (desk : Desk) (lamp : Option Lamp) (row : R
   rings_moved_same = ap (rings_next.next plan (rings_in r.rings)) rings_same
 
   -- what overlaps last through is seen of phases and commitments, and both are the same
-  sight : State → Shown
-  sight x = record (shown_of x) { pedestrian = pedestrian_part s; tripped = false }
-
-  lasting_by : (x : State) → some_lasts x.plan (sight x) ≡ is_lasting x
-  unfolding some_lasts lasts run_from sight
-  lasting_by x = refl
-
-  sights_same : heads_laws.AreAlike (sight (after_moves u row)) (sight (after_moves s row))
-  unfolding sight
-  sights_same = record {
+  served_same : heads_laws.ServeAlike (shown_of (after_moves u row)) (shown_of (after_moves s row))
+  served_same = record {
     interval = λ p from to.
         sym (ap (λ (f : ℕ → phase.Phase). (f p).interval) phases_then) ∙ same-interval t now r.phases p ∙ ap (λ (x : State). interval x p) here;
-    pedestrian = λ p from to. refl;
     commitment = λ n. ap (λ (x : ring_words.State). commitment_of (x.commitment Ring1) (x.commitment Ring2) n) rings_moved_same;
-    tripped = refl;
   }
 
   lasting_same : is_lasting (after_moves u row) ≡ is_lasting (after_moves s row)
-  lasting_same =
-      sym (lasting_by (after_moves u row))
-      ∙ some_lasts-same plan (sight (after_moves u row)) (sight (after_moves s row)) placed.count sights_same
-      ∙ lasting_by (after_moves s row)
+  lasting_same = some_lasts-same plan (shown_of (after_moves u row)) (shown_of (after_moves s row)) placed.count served_same
 
   new_rings_same : new_rings u row ≡ new_rings s row
   unfolding new_rings gives_up
@@ -479,6 +530,48 @@ module _ (now t : ℕ) (plan : Plan) (desk : Desk) (lamp : Option Lamp) (row : R
 
   rings_then : rings_in r.rings ≡ new_rings u row
   rings_then = ap (λ (x : State). x.rings) here ∙ sym new_rings_same
+
+  -- ### Overlaps once they follow
+
+  -- what they see in tick t
+  seen_then : (f : AreOverlapsQuiet now plan r soon) → AreAlike (given_by t f.seen (omitted_in r.overlaps) unlit) (overlaps_given u row)
+  unfolding tick.new_service preempts_words.new_service
+  seen_then f = record {
+    was_green = λ p from to. ap (λ (set : PhaseSet). has set p) f.seen_are.was_green_is ∙ green-set f.intervals p ∙ ap is_green (f.shown (t - 1) p from to);
+    interval = λ p from to. f.seen_are.intervals_are t p from to ∙ ap (λ (x : ℕ → phase.Phase). (x p).interval) phases_then;
+    pedestrian = λ p from to. f.seen_are.pedestrians_are t p from to ∙ ap (λ (x : ℕ → phase.Phase). (x p).pedestrian) phases_then;
+    commitment = λ n. ap₂ (λ (a b : Option ℕ). commitment_of a b n) (f.seen_are.first_is ∙ ap (λ (x : ring_words.State). x.commitment Ring1) rings_then)
+        (f.seen_are.second_is ∙ ap (λ (x : ring_words.State). x.commitment Ring2) rings_then);
+    timer = λ p from to. f.seen_are.since_are t p from to ∙ ap (λ (x : ℕ → phase.Phase). (x p).timer) phases_then;
+    preempted = f.seen_are.preempted_is ∙ f.served t ∙ ap (λ (x : Preempts). is_some x.service) preempts_then ∙ served-number _;
+    omitted = λ n from to. refl;
+  }
+
+  -- so a tick leaves them as they were
+  overlaps_then : overlap_in t r.overlaps ≡ overlap_words.next plan (overlaps_given u row) (overlap_in (t - 1) r.overlaps)
+  overlaps_then = elim o.overlaps [
+    | inl none ↦
+        ticks-as_next t plan (overlaps_given u row) (overlaps_given u row) r.overlaps r.overlaps r.overlaps placed.count placed.timed own_then
+        (λ n from to.
+        read-on t r.overlaps (omega arith) by_before.overlaps n
+        ∙ sym (untimed-runs plan (overlaps_given u row).preempted n (overlap_as_read (overlap_in (t - 1) r.overlaps n)) (none n)))
+        (λ n from to. sym (untimed-settles plan (overlaps_given u row) n (overlap_in t r.overlaps n) (none n)))
+    | inr f ↦
+        let quiet : overlaps.AreQuiet t (given_by t f.seen (omitted_in r.overlaps) unlit) plan r.overlaps = quiet-at f t (omega arith) sooner in
+        ticks-as_next t plan (given_by t f.seen (omitted_in r.overlaps) unlit) (overlaps_given u row) r.overlaps r.overlaps r.overlaps placed.count placed.timed (seen_then f)
+        (subst (λ (b : Bool). overlaps.IsRunOn t b plan r.overlaps r.overlaps) (seen_then f).preempted quiet.runs) quiet.settles
+  ]
+    where
+      own_then : AreAlike (overlaps_given u row) (overlaps_given u row)
+      own_then = record {
+        was_green = λ p from to. refl;
+        interval = λ p from to. refl;
+        pedestrian = λ p from to. refl;
+        commitment = λ n. refl;
+        timer = λ p from to. refl;
+        preempted = refl;
+        omitted = λ n from to. refl;
+      }
 
   -- ### All of it
 
@@ -495,6 +588,8 @@ module _ (now t : ℕ) (plan : Plan) (desk : Desk) (lamp : Option Lamp) (row : R
     phases = phases_then i;
     rings = rings_then i;
     preempts = preempts_then i;
+    overlaps = overlaps_then i;
+    omitted = omitted_in r.overlaps;
     lamp = lamp;
     trip = None;
   }

@@ -1,9 +1,9 @@
--- What every checked plan is like: it has 16 phases and all detectors and preempts, and what is none of these has no ring, is not enabled and is called by
--- no detector. So what is in a ring is a phase.
+-- What every checked plan is like: it has 16 phases and all detectors, overlaps and preempts. What is none of these has no
+-- ring, is not enabled, is called by no detector, and is no arrow, nor does it trail. So what is in a ring is a phase.
 use Rattle.std.proofs.Common.{◌≡◌, ℕ, ◌≤◌, ◌==◌, true, false, Some, None, List, refl, sym, ◌∙◌, inl, inr, arith, slice_index}
 use Rattle.std.proofs.lemmas.Bool.{cases_Bool, true≢false}
 use Rattle.std.proofs.lemmas.Bool.Decides.{nat_tests}
-use Rattle.tsb_step.specs.tsb_types.declared.limits.TheConstants.{PEDESTRIAN_DETECTORS, PREEMPTS, VEHICLE_DETECTORS}
+use Rattle.tsb_step.specs.tsb_types.declared.limits.TheConstants.{OVERLAPS, PEDESTRIAN_DETECTORS, PREEMPTS, VEHICLE_DETECTORS}
 use Rattle.tsb_step.specs.tsb_types.Sets.{is_phase}
 use Rattle.tsb_step.proofs.tsb_types.ClipLemmas.{is_phase_from}
 use Rattle.tsb_step.specs.tsb_plan.declared.object.Object.TheVariants.{VehicleDetectorCallPhase}
@@ -16,15 +16,18 @@ use Rattle.tsb_objects.specs.Checked.{checked_plan}
 use Rattle.tsb_ring.specs.Cells.{IsBy, commitment_in, ring_cell, rings_in}
 use Rattle.tsb_ring.specs.Looks.{IsWithin}
 use Rattle.tsb_ring.specs.Rings.{Ring, Ring1, Ring2, number, in_ring}
+use Rattle.tsb_overlap.specs.Laws.{TimesFew}
 
 pub record IsPlaced (plan : Plan) : Type 0 where
   pub count : plan.phase_count ≤ 16
   pub detectors : plan.counts.vehicle_detectors ≤ VEHICLE_DETECTORS
   pub buttons : plan.counts.pedestrian_detectors ≤ PEDESTRIAN_DETECTORS
   pub preempts : plan.counts.preempts ≤ PREEMPTS
+  pub overlaps : plan.counts.overlaps ≤ OVERLAPS
   pub ringed : (p : ℕ) → is_phase p ≡ false → ring_of plan p ≡ 0
   pub enabled : (p : ℕ) → is_phase p ≡ false → is_enabled plan p ≡ false
   pub called : (d : ℕ) → plan.value VehicleDetectorCallPhase d ≤ 16
+  pub timed : TimesFew plan
 
 pub placed : (checked : Checked) → IsPlaced (checked_plan checked)
 unfolding checked_plan plan_of
@@ -33,9 +36,11 @@ placed checked = record {
   detectors = omega arith;
   buttons = omega arith;
   preempts = omega arith;
+  overlaps = omega arith;
   ringed = λ p out. rw out refl;
   enabled = λ p out. rw out refl;
   called = λ d. checked.plan.ranged.each VehicleDetectorCallPhase d;
+  timed = λ o out. rw out refl;
 }
 
 -- as the calls ask for it

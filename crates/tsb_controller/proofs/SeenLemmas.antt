@@ -1,5 +1,5 @@
 -- What a log sees of the layers, set by set.
-use Rattle.std.proofs.Common.{◌≡◌, ℕ, ◌+◌, ◌<◌, ◌≤◌, Bool, true, false, not, ◌&&◌, ◌||◌, if◌then◌else◌, nat_le, Option, Some, None, is_some, refl, sym, ap, ap₂, ◌∙◌, inl, inr, arith}
+use Rattle.std.proofs.Common.{◌≡◌, ℕ, ◌+◌, ◌<◌, ◌≤◌, Bool, true, false, not, ◌&&◌, ◌||◌, if◌then◌else◌, nat_le, Option, Some, None, is_some, is_none, refl, sym, ap, ap₂, ◌∙◌, inl, inr, arith}
 use Rattle.std.proofs.lemmas.Bool.{cases_Bool}
 use Rattle.std.proofs.lemmas.Bool.Decides.{nat_tests}
 use Rattle.std.specs.List.{list_any}
@@ -22,7 +22,6 @@ use Rattle.tsb_step.specs.tsb_types.Lists.{first, run_from}
 use Rattle.tsb_step.specs.tsb_types.Sets.{has, has_number}
 use Rattle.tsb_step.proofs.tsb_types.ClipLemmas.{all-agree, any-agree}
 use Rattle.tsb_step.proofs.tsb_types.FirstLemmas.{first-passes, first-within}
-use Rattle.tsb_step.specs.tsb_plan.Parts.{is_included}
 use Rattle.tsb_step.specs.tsb_plan.Plan.{Plan, phases}
 use Rattle.tsb_step.specs.tsb_plan.PlanOf.{plan_of}
 use Rattle.tsb_step.specs.tsb_plan.Running.{running}
@@ -33,7 +32,7 @@ use Rattle.tsb_calls.proofs.LookLemmas.{look-alike}
 use Rattle.tsb_calls.specs.declared.standing.Standing.{Standing}
 use Rattle.tsb_phase.specs.Promises.{TellsIntervals, TellsPedestrians}
 use Rattle.tsb_heads.specs.declared.display.Display.{Display}
-use Rattle.tsb_heads.specs.Colours.{is_yellow as is_yellow_head}
+use Rattle.tsb_heads.specs.Colours.{is_flashing_yellow, is_yellow as is_yellow_head}
 use Rattle.tsb_heads.specs.Heads.{Heads}
 use Rattle.tsb_heads.specs.Monitoring.{is_green}
 use Rattle.tsb_heads.specs.Promises.{IsSame, NamesNot, NamesOverlaps}
@@ -42,11 +41,15 @@ use Rattle.tsb_objects.specs.declared.checked.Checked.{Checked}
 use Rattle.tsb_objects.specs.Checked.{checked_plan}
 use Rattle.tsb_preempt.specs.Service.{all_green, stage_phases}
 use Rattle.tsb_preempt.proofs.GreenLemmas.{all_green-told}
+use Rattle.tsb_overlap.specs.Cells.{overlap_in}
+use Rattle.tsb_overlap.specs.declared.parts.OverlapInterval.{OverlapInterval}
+use Rattle.tsb_overlap.specs.Overlap.{is_trail_green}
 use Rattle.tsb_step.specs.Cells.{clock_at}
-use Rattle.tsb_step.specs.Events.{calls_now, includes_service, is_off, is_overlap, shown_interval, shown_part, stage_is_green}
+use Rattle.tsb_step.specs.Events.{calls_now, includes_service, is_by, is_off, is_overlap, trails_now, shown_interval, shown_part, stage_is_green}
 use Rattle.tsb_step.specs.State.{State}
 use Rattle.tsb_controller.specs.Rows.{Rows, Beside, state_of}
 use Rattle.tsb_controller.specs.Seen.{IsStanding, is_off_beside}
+use Rattle.tsb_controller.proofs.OverlapLemmas.{interval-any}
 use Rattle.tsb_controller.proofs.TickLemmas.{alike-own}
 
 -- ## Sets of phases, by their intervals and parts
@@ -105,6 +108,18 @@ module _ (tripped : Bool) (rows : Rows) (now : ℕ) (b : Beside) (trips : is_som
       Agree (pedestrian_of j) (shown_part (state_of now b rows))
   shown-parts i j told is p from to =
       is p ∙ ap₂ (λ (t : Bool) (x : PedestrianInterval). if t then DontWalk else x) (sym trips) (told (clock_at now b.trip) p from to)
+
+module _ (tripped : Bool) (rows : Rows) (now : ℕ) (b : Beside) (trips : is_some b.trip ≡ tripped) where
+  none-some : {A : Type 0} (x : Option A) → not (is_some x) ≡ is_none x
+  none-some None = refl
+  none-some (Some x) = refl
+
+  -- the overlaps that are green after their phases, at whatever tick they are read
+  pub trails-told : (n o : ℕ) → 1 ≤ o → o ≤ OVERLAPS → (not tripped && is_trail_green (overlap_in n rows.overlaps o).interval) ≡ (is_overlap o && trails_now (state_of now b rows) o)
+  trails-told n o from to =
+      let here : is_overlap o ≡ true = grind (arith, nat_tests, from, to) in
+      ap₂ (λ (a : Bool) (i : OverlapInterval). a && is_trail_green i) (ap not (sym trips) ∙ none-some b.trip) (interval-any n (clock_at now b.trip) rows.overlaps o)
+      ∙ ap (λ (a : Bool). a && trails_now (state_of now b rows) o) (sym here)
 
 -- ## The stage of a preempt
 
@@ -177,12 +192,12 @@ module _ (plan : Plan) (count : plan.phase_count ≤ 16) (few : plan.counts.vehi
 
 pub served-told : (checked : Checked) (o : ℕ) (served : PhaseSet) (s : State) → s.plan ≡ checked_plan checked →
     ((p : ℕ) → 1 ≤ p → p ≤ 16 → has served p ≡ in_service (shown_interval s p)) →
-    list_any (λ p. is_included (checked_plan checked) o p && has served p) (run_from 1 16) ≡ includes_service s o
+    list_any (λ p. is_by (checked_plan checked) o p && has served p) (run_from 1 16) ≡ includes_service s o
 unfolding checked_plan plan_of
 served-told checked o served s same told =
-    any-agree 16 (λ p. is_included (checked_plan checked) o p && has served p) (λ p. is_included (checked_plan checked) o p && in_service (shown_interval s p)) (omega arith)
-    (λ p from to. ap (λ (b : Bool). is_included (checked_plan checked) o p && b) (told p from to))
-    ∙ ap (λ (plan : Plan). list_any (λ p. is_included plan o p && in_service (shown_interval s p)) (phases plan)) (sym same)
+    any-agree 16 (λ p. is_by (checked_plan checked) o p && has served p) (λ p. is_by (checked_plan checked) o p && in_service (shown_interval s p)) (omega arith)
+    (λ p from to. ap (λ (b : Bool). is_by (checked_plan checked) o p && b) (told p from to))
+    ∙ ap (λ (plan : Plan). list_any (λ p. is_by plan o p && in_service (shown_interval s p)) (phases plan)) (sym same)
 
 -- a set of the overlaps that pass a test, of which a dark head passes none
 module _ (test : Aspect → Bool) (dark : (b : Bool) → test (flashed_if b Dark) ≡ false) (d : Display) (said : Heads) (same : IsSame (heads_of d) said) (few : NamesOverlaps d) where
@@ -196,7 +211,7 @@ module _ (test : Aspect → Bool) (dark : (b : Bool) → test (flashed_if b Dark
         let over : OVERLAPS < o = grind (arith, nat_tests, off) in
         let none : NamesNot d o = few o over in
         let away : is_overlap o ≡ false = grind (arith, nat_tests, over) in
-        rw (none.red, none.yellow, none.green, away) (dark d.flashing)
+        rw (none.arrow, none.red, none.yellow, none.green, away) (dark d.flashing)
   ]
 
 pub dark-green : (b : Bool) → is_green (flashed_if b Dark) ≡ false
@@ -207,11 +222,15 @@ pub dark-yellow : (b : Bool) → is_yellow_head (flashed_if b Dark) ≡ false
 dark-yellow true = refl
 dark-yellow false = refl
 
+pub dark-arrow : (b : Bool) → is_flashing_yellow (flashed_if b Dark) ≡ false
+dark-arrow true = refl
+dark-arrow false = refl
+
 -- the overlaps that are off
 pub off-told : (plan : Plan) (lit off : NumberSet) (served : PhaseSet) (s : State) (heads : Heads) →
     ((o : ℕ) → 1 ≤ o → o ≤ OVERLAPS → has_number off o ≡ is_off_beside plan lit served o) → ((o : ℕ) → OVERLAPS < o → has_number off o ≡ false) →
-    ((o : ℕ) → 1 ≤ o → has_number lit o ≡ ((is_overlap o && is_green (heads.overlap o)) || (is_overlap o && is_yellow_head (heads.overlap o)))) →
-    ((o : ℕ) → list_any (λ p. is_included plan o p && has served p) (run_from 1 16) ≡ includes_service s o) →
+    ((o : ℕ) → 1 ≤ o → has_number lit o ≡ ((is_overlap o && is_green (heads.overlap o)) || ((is_overlap o && is_yellow_head (heads.overlap o)) || (is_overlap o && is_flashing_yellow (heads.overlap o))))) →
+    ((o : ℕ) → list_any (λ p. is_by plan o p && has served p) (run_from 1 16) ≡ includes_service s o) →
     (o : ℕ) → 1 ≤ o → has_number off o ≡ (is_overlap o && is_off (heads.overlap o) (includes_service s o))
 off-told plan lit off served s heads told few is_lit includes o from = elim (cases_Bool (nat_le o OVERLAPS)) [
   | inl on ↦

@@ -23,12 +23,15 @@ use Rattle.tsb_preempt.specs.Preempts.{is_outside, wanted_by}
 use Rattle.tsb_preempt.specs.Promises.{stage_of, TellsStage}
 use Rattle.tsb_preempt.specs.Service.{Service, stage_phases}
 use Rattle.tsb_ring.specs.Cells.{rings_in}
+use Rattle.tsb_overlap.specs.Cells.{overlap_in}
+use Rattle.tsb_overlap.specs.Overlap.{holds as holds_by}
+use Rattle.tsb_overlap.specs.Promises.{TellsHolder, with_left}
 use Rattle.tsb_ring.specs.Rings.{Ring, Ring1, Ring2, in_ring, number, ring_numbered}
 use Rattle.tsb_step.specs.Cells.{clock_at}
 use Rattle.tsb_step.specs.State.{State, interval}
 use Rattle.tsb_step.specs.Status as definition
 use Rattle.tsb_step.specs.Status.{force_off_of, ring_with, serving}
-use Rattle.tsb_step.specs.Waits.{served, service_number}
+use Rattle.tsb_step.specs.Waits.{held_left, holder, served, service_number}
 use Rattle.tsb_status.specs.declared.found.Next.{Next}
 use Rattle.tsb_status.specs.declared.found.Served.{Served}
 use Rattle.tsb_status.specs.declared.rings.PhaseFound.{PhaseFound}
@@ -44,6 +47,7 @@ use Rattle.tsb_status.proofs.ToldLemmas.{next-are-found, served-are-found}
 use Rattle.tsb_controller.specs.declared.found.RingTold.{RingTold}
 use Rattle.tsb_controller.specs.declared.status.Beside.{Beside as Told}
 use Rattle.tsb_controller.specs.Rows.{Rows, Beside, state_of}
+use Rattle.tsb_controller.proofs.ReaderLemmas.{staged}
 use Rattle.tsb_controller.specs.StatusPromises.{IsToldRing, StandsBeside, TellsGreenFound, TellsInService, TellsNext, TellsPhaseFound, TellsRing, TellsRingFound, TellsServed, TellsUnwanted, force_off_by, ring_status_by, shown_of}
 
 -- ## A phase
@@ -87,13 +91,28 @@ green-found plan rows p found stage from within count runs stages service held e
     here : is_phase p ≡ true
     here = grind (arith, nat_tests, from, within)
 
-pub phase-found : (clock : ℕ) (plan : Plan) (rows : Rows) (p : ℕ) (times : PhaseTimes) (found : GreenFound) → IsTold (phase_in clock rows.phases p) times →
-    TellsGreenFound plan rows p found → TellsPhaseFound clock plan rows p (record { phase = p; times = times; found = found })
-phase-found clock plan rows p times found told green now b same at = record {
+pub phase-found : (clock : ℕ) (plan : Plan) (rows : Rows) (p : ℕ) (times : PhaseTimes) (found : GreenFound) (stage : Option (ℕ × Stage)) (held : Option (ℕ × ℕ)) →
+    IsTold (phase_in clock rows.phases p) times → TellsGreenFound plan rows p found → TellsStage rows.preempts stage →
+    TellsHolder p clock (is_some stage) plan rows.overlaps held →
+    TellsPhaseFound clock plan rows p (record { phase = p; times = times; found = found; holder = held })
+unfolding holder
+phase-found clock plan rows p times found stage held told green stages holds now b same at = record {
   phase = refl;
   told = subst (λ t. IsTold (phase_in t rows.phases p) times) (sym at) told;
   found = green now b same;
+  holder = holds ∙ held-as;
 }
+  where
+    s : State
+    s = state_of now b rows
+
+    -- the stage and the clock are those of the state
+    preempted : is_some stage ≡ is_some s.preempts.service
+    preempted = ap is_some (stages (clock_at now b.trip)) ∙ staged s.preempts.service
+
+    held-as : option_map (with_left clock (is_some stage) plan rows.overlaps) (first (holds_by plan (is_some stage) (overlap_in clock rows.overlaps) p) (run_from 1 plan.counts.overlaps))
+        ≡ option_map (λ o. (o, held_left s o)) (holder s p)
+    held-as = rw (preempted, sym at, sym same) refl
 
 -- ## A ring
 

@@ -8,6 +8,7 @@ use Rattle.tsb_heads.specs.declared.monitor.Trip.{Trip}
 use Rattle.tsb_heads.specs.Displays as heads
 use Rattle.tsb_heads.specs.Heads.{Shown}
 use Rattle.tsb_heads.specs.Monitoring.{judge}
+use Rattle.tsb_overlap.specs.Overlap.{light}
 use Rattle.tsb_transact.specs.Desk.{Desk}
 use Rattle.tsb_step.specs.Signs.{field, shown, watched}
 use Rattle.tsb_step.specs.State.{State, Tripped}
@@ -19,11 +20,12 @@ use Rattle.tsb_controller.specs.Promises.{IsTicked, IsWatchedTick}
 use Rattle.tsb_controller.specs.Rows.{Rows, untripped, state_of}
 use Rattle.tsb_controller.proofs.LaterLemmas.{part-at}
 use Rattle.tsb_controller.proofs.CarryLemmas.{same-interval}
+use Rattle.tsb_controller.proofs.OverlapLemmas.{interval-any}
 
 -- ## A watched tick is a tick
 
 pub watched-ticks_are : WatchedTicksAreTicked
-unfolding watched new_detectors tick.new_service phases_given rings_given moves tick.new_rings tick.gives_up
+unfolding watched new_detectors tick.new_service phases_given tick.held rings_given moves tick.new_rings tick.gives_up
 watched-ticks_are now row lamp plan old new None done desk other = λ i. record (done desk i) { lamp = other; trip = None }
 watched-ticks_are now row lamp plan old new (Some cause) done desk other = λ i. record (done desk i) { lamp = other; trip = None }
 
@@ -35,6 +37,7 @@ shown-at : (m n : ℕ) (plan : Plan) (desk : Desk) (lamp : Option Lamp) (r : Row
 shown-at m n plan desk lamp r = λ i. record (shown (state_of n (untripped plan desk lamp) r)) {
   interval = fun_ext (λ p. same-interval m n r.phases p) i;
   pedestrian = fun_ext (λ p. part-at m n r.phases p) i;
+  light = fun_ext (λ o. ap light (interval-any m n r.overlaps o)) i;
 }
 
 field-at : (m n : ℕ) (plan : Plan) (desk : Desk) (lamp : Option Lamp) (r : Rows) →

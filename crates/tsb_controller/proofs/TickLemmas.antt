@@ -1,7 +1,7 @@
 -- What the steps of a tick say of the rows, one after the other, comes to the one step of the state that is read in them.
-use Rattle.std.proofs.Common.{◌≡◌, ℕ, ◌+◌, ◌-◌, ◌≤◌, Bool, true, false, ◌&&◌, if◌then◌else◌, List, Option, Some, None, option_map, refl, sym, ap, ap₂, ◌∙◌, inl, inr, arith, subst, slice_index}
+use Rattle.std.proofs.Common.{◌≡◌, ℕ, ◌+◌, ◌-◌, ◌≤◌, Bool, true, false, not, ◌&&◌, if◌then◌else◌, List, Option, Some, None, is_some, option_map, refl, sym, ap, ap₂, ◌∙◌, inl, inr, arith, subst, slice_index}
 use Rattle.std.proofs.Math.Path.{fun_ext}
-use Rattle.std.proofs.lemmas.Bool.{cases_Bool, true≢false}
+use Rattle.std.proofs.lemmas.Bool.{and_parts, cases_Bool, true≢false}
 use Rattle.std.proofs.lemmas.Bool.Decides.{nat_tests}
 use Rattle.tsb_cells.specs.declared.timer.Timer.{Timer}
 use Rattle.tsb_cells.specs.declared.timer.Timer.TheVariants.{Off}
@@ -11,15 +11,15 @@ use Rattle.tsb_step.specs.tsb_types.declared.flow.Called.{Called}
 use Rattle.tsb_step.specs.tsb_types.declared.flow.Intervals.{Intervals}
 use Rattle.tsb_step.specs.tsb_types.declared.flow.Moves.{Moves}
 use Rattle.tsb_step.specs.tsb_types.declared.flow.Orders.{Orders}
+use Rattle.tsb_step.specs.tsb_types.declared.flow.OverlapLights.{OverlapLights}
+use Rattle.tsb_step.specs.tsb_types.declared.flow.Timing.{Timing}
 use Rattle.tsb_step.specs.tsb_types.declared.lamp.Lamp.{Lamp}
 use Rattle.tsb_step.specs.tsb_types.declared.phase_set.PhaseSet.{PhaseSet}
 use Rattle.tsb_step.specs.tsb_types.declared.row.Row.{Row}
 use Rattle.tsb_step.specs.tsb_types.Clip.{Agree}
-use Rattle.tsb_step.specs.tsb_types.declared.flow.Pedestrians.{Pedestrians}
-use Rattle.tsb_step.specs.tsb_types.Flow.{interval_of, pedestrian_of, target_of}
-use Rattle.tsb_step.specs.tsb_types.Lists.{run_from}
+use Rattle.tsb_step.specs.tsb_types.Flow.{interval_of, target_of}
 use Rattle.tsb_step.specs.tsb_types.Intervals.{is_green}
-use Rattle.tsb_step.specs.tsb_types.Sets.{has, has_detector, has_number, is_phase}
+use Rattle.tsb_step.specs.tsb_types.Sets.{has, has_detector, has_number, is_phase, set_of_list}
 use Rattle.tsb_step.proofs.tsb_types.ClipLemmas.{among_16, clipped-agrees, is_phase_from, within-agrees}
 use Rattle.tsb_step.specs.tsb_plan.Plan.{Plan, sequence}
 use Rattle.tsb_step.specs.tsb_plan.Parts.{call_phase, is_anew}
@@ -60,9 +60,7 @@ use Rattle.tsb_ring.specs.Rings.{Ring1, Ring2, number}
 use Rattle.tsb_ring.proofs.ActLemmas.{acts_as_next}
 use Rattle.tsb_ring.proofs.LookLemmas.{moves-same}
 use Rattle.tsb_ring.proofs.MoveLemmas.{ends_ready, clears_over}
-use Rattle.tsb_heads.specs.Heads.{Shown}
 use Rattle.tsb_heads.specs.Laws as heads_laws
-use Rattle.tsb_heads.specs.Overlaps.{lasts, some_lasts}
 use Rattle.tsb_heads.specs.Reading.{commitment_of, shown_by}
 use Rattle.tsb_heads.proofs.OwnLemmas.{some_lasts-same}
 use Rattle.tsb_coord.specs.Cells.{pattern_in, correction_in, start_in}
@@ -77,14 +75,21 @@ use Rattle.tsb_preempt.proofs.OwnLemmas.{orders-as-next, ticks-as-next}
 use Rattle.tsb_transact.specs.Desk.{Desk}
 use Rattle.tsb_step.specs.State.{State, interval}
 use Rattle.tsb_step.specs.Tick as tick
-use Rattle.tsb_step.specs.Tick.{preempts_given, calls_given, phases_given, rings_given, new_detectors, set, callable, conflict, pedestrian_call, ready, over, reverted, gapped, walks_again, service, moves, moved, done, after_moves, gives_up, new_rings, next}
+use Rattle.tsb_step.specs.Tick.{preempts_given, calls_given, phases_given, rings_given, new_detectors, set, callable, conflict, pedestrian_call, ready, over, held, lets_go, reverted, gapped, walks_again, service, moves, moved, done, after_moves, after_rings, gives_up, new_rings, overlaps_given, next}
 use Rattle.tsb_step.specs.Signs.{is_lasting, shown as shown_of}
+use Rattle.tsb_overlap.specs.Cells.{omitted_in, overlap_in}
+use Rattle.tsb_overlap.specs.Overlap as overlap_words
+use Rattle.tsb_overlap.specs.Overlap.{is_held}
+use Rattle.tsb_overlap.specs.Reading as overlap_reading
+use Rattle.tsb_overlap.specs.Laws as overlap_laws
+use Rattle.tsb_overlap.specs.Promises as overlap_promises
+use Rattle.tsb_overlap.proofs.OwnLemmas.{ticks-as_next, untimed-settles}
 use Rattle.tsb_step.proofs.ClipLemmas.{clipped_holds}
 use Rattle.tsb_step.proofs.GiveUpLemmas.{gives_none}
 use Rattle.tsb_controller.specs.declared.values.Sensed.{Sensed}
 use Rattle.tsb_controller.specs.declared.values.Movement.{Movement}
 use Rattle.tsb_controller.specs.Carried.{moved_by}
-use Rattle.tsb_controller.specs.Found.{observed, for_rings, IsSensed, IsMoved, LeavesAllButRings, TellsLasting, IsGivenUpOutside, IsGivenUpFor, IsGivenUp, AreConditions, AreDecided}
+use Rattle.tsb_controller.specs.Found.{observed, for_rings, IsSensed, IsRunOn, IsMoved, IsFollowing, IsSettled, LeavesAllButOverlaps, LeavesAllButRings, TellsLasting, IsGivenUpOutside, IsGivenUpFor, IsGivenUp, AreConditions, AreDecided}
 use Rattle.tsb_controller.specs.Promises.{IsTicked}
 use Rattle.tsb_controller.specs.Rows.{Rows, AreBy, untripped, state_of}
 use Rattle.tsb_controller.proofs.PlacedLemmas.{IsPlaced, for_calls, within}
@@ -132,14 +137,18 @@ outside false p out known = refl
 outside true p out known =
     let at = known refl in absurd (true≢false (sym (is_phase_from p at.0 at.1) ∙ out))
 
+-- overlaps that show nothing, which is as good as any to what does not look at them
+abbrev pub unlit : OverlapLights
+unlit = record { green = set_of_list 0; flashing = set_of_list 0; yellow = set_of_list 0 }
+
 -- all that the rings do to a phase once its times have run
 abbrev once : Plan → phase.Given → phase.Moved → ℕ → Bool → Phase → Phase
 once plan g x p by_gap y = once_started plan g x p (once_cleared x p (once_ended plan g x p by_gap y))
 
 -- ## The tick
 --
--- `old` are the rows before it, `sensed_rows` once preempts and detectors have run, `mid` the calls' once they are set, and
--- `moved_rows` once the moves are carried out
+-- `old` are the rows before it, `sensed_rows` once preempts and detectors have run, `mid` the calls' once they are set;
+-- `run_row` the overlaps' once they have run on, and `moved_rows` once the moves are carried out
 
 module _ (now : ℕ) (plan : Plan) (desk : Desk) (lamp : Option Lamp) (row : Row) (old sensed_rows : Rows) (mid : List ℕ) (s : Sensed) (called : Called)
     (one : 1 ≤ now) (placed : IsPlaced plan) (by : AreBy (now - 1) old)
@@ -253,8 +262,10 @@ module _ (now : ℕ) (plan : Plan) (desk : Desk) (lamp : Option Lamp) (row : Row
 
   -- ### Phases
 
-  module _ (moved_rows : Rows) (m : Movement)
-      (run : IsMoved now s called plan (record old { detectors = sensed_rows.detectors; calls = mid; preempts = sensed_rows.preempts }) moved_rows m) where
+  module _ (run_row : List ℕ) (holding : PhaseSet) (moved_rows : Rows) (m : Movement)
+      (ran : IsRunOn now s plan (record old { detectors = sensed_rows.detectors; calls = mid; preempts = sensed_rows.preempts })
+      (record old { detectors = sensed_rows.detectors; calls = mid; preempts = sensed_rows.preempts; overlaps = run_row }) holding)
+      (run : IsMoved now s called holding plan (record old { detectors = sensed_rows.detectors; calls = mid; preempts = sensed_rows.preempts; overlaps = run_row }) moved_rows m) where
     alike_here : (p : ℕ) → 1 ≤ p → p ≤ 16 → IsToldTheSame plan (phases.given_of run.conditions) (phases_given t row) p
     alike_here = told run.conditions run.counts run.lent run.conditions_are
 
@@ -262,16 +273,25 @@ module _ (now : ℕ) (plan : Plan) (desk : Desk) (lamp : Option Lamp) (row : Row
     was p = phase_in (now - 1) old.phases p
 
     ready_is : Agree (has m.timing.ready) (ready t row)
-    ready_is p from to = run.ready p from to ∙ (alike_here p from to).ready (as_read (was p))
+    ready_is p from to = ap (λ (x : Timing). has x.ready p) run.held_back.rest ∙ run.ready p from to ∙ (alike_here p from to).ready (as_read (was p))
 
     gapped_is : Agree (has m.timing.gapped) (gapped t row)
-    gapped_is p from to = run.gapped p from to ∙ (alike_here p from to).gapped (as_read (was p))
+    gapped_is p from to = ap (λ (x : Timing). has x.gapped p) run.held_back.rest ∙ run.gapped p from to ∙ (alike_here p from to).gapped (as_read (was p))
 
     walks_are : Agree (has m.timing.walks) (walks_again t row)
-    walks_are p from to = run.walks p from to ∙ (alike_here p from to).walks (as_read (was p))
+    walks_are p from to = ap (λ (x : Timing). has x.walks p) run.held_back.rest ∙ run.walks p from to ∙ (alike_here p from to).walks (as_read (was p))
 
     ticked_is : Agree (phase_in now run.timed) (λ p. phase_next.ticked plan (phases_given t row) p (was p))
     ticked_is p from to = run.ticked p from to ∙ (alike_here p from to).goes_on none_moved none_moved (was p) (record { ends = refl; clears = refl; starts = refl })
+
+    -- ### Held phases
+
+    held_is : Agree (has holding) (held t row)
+    unfolding held
+    held_is p from to = ran.holding p from to ∙ ap (λ (o : Option ℕ). is_held plan (is_some o) (overlap_in (now - 1) old.overlaps) p) served
+
+    over_is : Agree (has m.timing.over) (lets_go t row)
+    over_is p from to = run.held_back.over p ∙ ap₂ (λ (a b : Bool). a && not b) (run.over p from to) (held_is p from to)
 
     -- ### Rings
 
@@ -283,8 +303,8 @@ module _ (now : ℕ) (plan : Plan) (desk : Desk) (lamp : Option Lamp) (row : Row
       callable = λ p from to. callable_is p from to ∙ sym (clipped-agrees (callable t row) p from to);
       omitted = λ p from to. sensed.ordered.omit p from to ∙ sym (clipped-agrees (tick.omitted t) p from to);
       ready = λ p from to. ready_is p from to ∙ sym (clipped-agrees (ready t row) p from to);
-      over = λ p from to. run.over p from to ∙ sym (clipped-agrees (over t) p from to);
-      reverted = λ p from to. run.reverted p from to ∙ sym (clipped-agrees (reverted t) p from to);
+      over = λ p from to. over_is p from to ∙ sym (clipped-agrees (lets_go t row) p from to);
+      reverted = λ p from to. ap (λ (x : Timing). has x.red_revert_passed p) run.held_back.rest ∙ run.reverted p from to ∙ sym (clipped-agrees (reverted t) p from to);
       target = same-targets _ (tick.target t row) wanted.target;
     }
 
@@ -307,7 +327,7 @@ module _ (now : ℕ) (plan : Plan) (desk : Desk) (lamp : Option Lamp) (row : Row
     unfolding moves rings_given
     are-moves p = record {
       ends_greens = λ on. (ends_ready plan t.rings (rings_given t row) p on).0;
-      clears_overs = λ on. clipped_holds (over t) p (clears_over plan t.rings (rings_given t row) p on);
+      clears_overs = λ on. (and_parts (over t p) (not (held t row p)) (clipped_holds (lets_go t row) p (clears_over plan t.rings (rings_given t row) p on))).0;
     }
 
     once-same : (x : phase.Moved) (p : ℕ) (by_gap : Bool) (y : Phase) → 1 ≤ p → p ≤ 16 → once plan (phases.given_of run.conditions) x p by_gap y ≡ once plan (phases_given t row) x p by_gap y
@@ -347,27 +367,17 @@ module _ (now : ℕ) (plan : Plan) (desk : Desk) (lamp : Option Lamp) (row : Row
     -- ### Rings once they have given up
 
     -- what an overlap lasts through is seen of phases and rings alone
-    seen_after : Pedestrians → Shown
-    seen_after x = record (shown_of (after_moves t row)) { pedestrian = pedestrian_of x; tripped = false }
-
-    lasting_alike : (x : Pedestrians) → some_lasts plan (seen_after x) ≡ is_lasting (after_moves t row)
-    unfolding some_lasts lasts run_from moves seen_after
-    lasting_alike x = refl
-
     lasting_is : (b : Bool) → TellsLasting plan moved_rows b → b ≡ is_lasting (after_moves t row)
-    unfolding seen_after moves
+    unfolding moves
     lasting_is b h =
-        h.told s.pedestrians false
-        ∙ some_lasts-same plan (shown_by h.intervals s.pedestrians h.ring_1 h.ring_2 false) (seen_after s.pedestrians) placed.count alike_then
-        ∙ lasting_alike s.pedestrians
+        h.told s.pedestrians unlit false
+        ∙ some_lasts-same plan (shown_by h.intervals s.pedestrians h.ring_1 h.ring_2 unlit false) (shown_of (after_moves t row)) placed.count alike_then
       where
-        alike_then : heads_laws.AreAlike (shown_by h.intervals s.pedestrians h.ring_1 h.ring_2 false) (seen_after s.pedestrians)
+        alike_then : heads_laws.ServeAlike (shown_by h.intervals s.pedestrians h.ring_1 h.ring_2 unlit false) (shown_of (after_moves t row))
         alike_then = record {
           interval = λ p from to. h.intervals_are now p from to ∙ ap (λ (f : ℕ → Phase). (f p).interval) phases_are;
-          pedestrian = λ p from to. refl;
           commitment = λ r. ap₂ (λ (a b : Option ℕ). commitment_of a b r) (h.first_is ∙ ap (λ (x : ring_words.State). x.commitment Ring1) rings_are)
               (h.second_is ∙ ap (λ (x : ring_words.State). x.commitment Ring2) rings_are);
-          tripped = refl;
         }
 
     module _ (given_rows : Rows) (gave : IsGivenUp s plan moved_rows given_rows) where
@@ -430,12 +440,67 @@ module _ (now : ℕ) (plan : Plan) (desk : Desk) (lamp : Option Lamp) (row : Row
         (λ p from to. ap (λ (x : PhaseSet). has x p) decided.pedestrian_are ∙ pedestrian_is p from to)
         sets settled
 
+    -- ### Overlaps once they follow
+
+    module _ (rings_row : List ℕ) (rings_given_are : rings_in rings_row ≡ new_rings t row) (settled_rows : Rows)
+        (follows : IsSettled now s plan
+        (record old { detectors = sensed_rows.detectors; calls = mid; phases = moved_rows.phases; rings = rings_row; preempts = sensed_rows.preempts; overlaps = run_row }) settled_rows) where
+      abbrev followed : Rows
+      followed = record old { detectors = sensed_rows.detectors; calls = mid; phases = moved_rows.phases; rings = rings_row; preempts = sensed_rows.preempts; overlaps = run_row }
+
+      -- as the tick begins
+      began : overlap_promises.IsRunOn now (overlaps_given t row).preempted plan old.overlaps run_row
+      began = subst (λ (n : Option ℕ). overlap_promises.IsRunOn now (is_some n) plan old.overlaps run_row) served ran.state
+
+      -- what they see
+      seen_alike : (f : IsFollowing now s plan followed settled_rows) →
+          overlap_laws.AreAlike (overlap_reading.given_by now f.seen (omitted_in run_row) unlit) (overlaps_given t row)
+      seen_alike f = record {
+        was_green = λ p from to. ap (λ (set : PhaseSet). has set p) f.seen_are.was_green_is ∙ green-set s.intervals p ∙ ap is_green (shown p from to);
+        interval = λ p from to. f.seen_are.intervals_are now p from to ∙ ap (λ (x : ℕ → Phase). (x p).interval) phases_are;
+        pedestrian = λ p from to. f.seen_are.pedestrians_are now p from to ∙ ap (λ (x : ℕ → Phase). (x p).pedestrian) phases_are;
+        commitment = λ r. ap₂ (λ (a b : Option ℕ). commitment_of a b r) (f.seen_are.first_is ∙ ap (λ (x : ring_words.State). x.commitment Ring1) rings_given_are)
+            (f.seen_are.second_is ∙ ap (λ (x : ring_words.State). x.commitment Ring2) rings_given_are);
+        timer = λ p from to. f.seen_are.since_are now p from to ∙ ap (λ (x : ℕ → Phase). (x p).timer) phases_are;
+        preempted = f.seen_are.preempted_is ∙ ap (λ (n : Option ℕ). is_some n) served;
+        omitted = λ o from to. ap (λ (f : ℕ → Bool). f o) ran.omitted;
+      }
+
+      own : overlap_laws.AreAlike (overlaps_given t row) (overlaps_given t row)
+      own = record {
+        was_green = λ p from to. refl;
+        interval = λ p from to. refl;
+        pedestrian = λ p from to. refl;
+        commitment = λ r. refl;
+        timer = λ p from to. refl;
+        preempted = refl;
+        omitted = λ o from to. refl;
+      }
+
+      pub overlaps_are : overlap_in now settled_rows.overlaps ≡ overlap_words.next plan (overlaps_given t row) (overlap_in (now - 1) old.overlaps)
+      overlaps_are = elim follows [
+        | inl none ↦
+            ticks-as_next now plan (overlaps_given t row) (overlaps_given t row) old.overlaps run_row settled_rows.overlaps placed.count placed.timed own began
+            (λ o from to. ap (λ (r : Rows). overlap_in now r.overlaps o) none.1 ∙ sym (untimed-settles plan (overlaps_given t row) o (overlap_in now run_row o) (none.0 o)))
+        | inr f ↦
+            ticks-as_next now plan (overlap_reading.given_by now f.seen (omitted_in run_row) unlit) (overlaps_given t row) old.overlaps run_row settled_rows.overlaps placed.count placed.timed
+            (seen_alike f) began (f.state unlit)
+      ]
+
+      pub omitted_are : omitted_in settled_rows.overlaps ≡ omitted_in old.overlaps
+      omitted_are = elim follows [
+        | inl none ↦ ap (λ (r : Rows). omitted_in r.overlaps) none.1 ∙ ran.omitted
+        | inr f ↦ f.omitted ∙ ran.omitted
+      ]
+
     -- ### All of it
 
-    pub joined : (given_rows : Rows) → IsGivenUp s plan moved_rows given_rows → (d : Decided) (new : List ℕ) → AreDecided s called m d → calls.IsSettled d mid new →
-        state_of now (untripped plan desk lamp) (record old { detectors = sensed_rows.detectors; calls = new; phases = moved_rows.phases; rings = given_rows.rings; preempts = sensed_rows.preempts })
+    pub joined : (given_rows settled_rows : Rows) → IsGivenUp s plan moved_rows given_rows → IsSettled now s plan
+        (record old { detectors = sensed_rows.detectors; calls = mid; phases = moved_rows.phases; rings = given_rows.rings; preempts = sensed_rows.preempts; overlaps = run_row }) settled_rows →
+        (d : Decided) (new : List ℕ) → AreDecided s called m d → calls.IsSettled d mid new →
+        state_of now (untripped plan desk lamp) (record old { detectors = sensed_rows.detectors; calls = new; phases = moved_rows.phases; rings = given_rows.rings; preempts = sensed_rows.preempts; overlaps = settled_rows.overlaps })
         ≡ next t row
-    joined given_rows gave d new decided settled = λ i. record {
+    joined given_rows settled_rows gave follows d new decided settles = λ i. record {
       now = now_is i;
       plan = plan;
       desk = desk;
@@ -443,28 +508,44 @@ module _ (now : ℕ) (plan : Plan) (desk : Desk) (lamp : Option Lamp) (row : Row
       correction = correction_in old.pattern;
       start_moment = start_in old.pattern;
       detectors = detectors_are i;
-      memories = memories_are d new decided settled i;
+      memories = memories_are d new decided settles i;
       phases = phases_are i;
       rings = given_are given_rows gave i;
       preempts = preempts_are i;
+      overlaps = overlaps_are given_rows.rings (given_are given_rows gave) settled_rows follows i;
+      omitted = omitted_are given_rows.rings (given_are given_rows gave) settled_rows follows i;
       lamp = lamp;
       trip = None;
     }
 
 -- The rows after the tick, from the rows after each step: no step changes a row but its own.
-pub stepped : (now : ℕ) (plan : Plan) (row : Row) (old sensed_rows moved_rows given_rows : Rows) (mid new : List ℕ) (s : Sensed) (called : Called) (m : Movement) (d : Decided) →
+pub stepped : (now : ℕ) (plan : Plan) (row : Row) (old sensed_rows run_rows moved_rows given_rows settled_rows : Rows) (mid new : List ℕ) (s : Sensed) (called : Called) (holding : PhaseSet) (m : Movement) (d : Decided) →
     1 ≤ now → IsPlaced plan → AreBy (now - 1) old → IsSensed now row plan old sensed_rows s →
     calls.IsSet (observed row s) plan sensed_rows.calls mid → calls.TellsCalled (observed row s) plan sensed_rows.calls called →
-    IsMoved now s called plan (record sensed_rows { calls = mid }) moved_rows m → IsGivenUp s plan moved_rows given_rows →
-    LeavesAllButRings moved_rows given_rows → AreDecided s called m d → calls.IsSettled d given_rows.calls new →
-    IsTicked now row plan old (record given_rows { calls = new })
-stepped now plan row old sensed_rows moved_rows given_rows mid new s called m d one placed by sensed sets calls_told run gave rest decided settled desk lamp =
-    let own_run : IsMoved now s called plan (record old { detectors = sensed_rows.detectors; calls = mid; preempts = sensed_rows.preempts }) moved_rows m =
-    subst (λ (r : Rows). IsMoved now s called plan (record r { calls = mid }) moved_rows m) sensed.rest run in
-    let all : given_rows ≡ record old { detectors = sensed_rows.detectors; calls = mid; phases = moved_rows.phases; rings = given_rows.rings; preempts = sensed_rows.preempts } =
-    rest ∙ ap (λ (r : Rows). record r { rings = given_rows.rings }) own_run.rest in
+    IsRunOn now s plan (record sensed_rows { calls = mid }) run_rows holding →
+    IsMoved now s called holding plan run_rows moved_rows m → IsGivenUp s plan moved_rows given_rows →
+    LeavesAllButRings moved_rows given_rows → IsSettled now s plan given_rows settled_rows → LeavesAllButOverlaps given_rows settled_rows →
+    AreDecided s called m d → calls.IsSettled d settled_rows.calls new →
+    IsTicked now row plan old (record settled_rows { calls = new })
+stepped now plan row old sensed_rows run_rows moved_rows given_rows settled_rows mid new s called holding m d one placed by sensed sets calls_told ran run gave rest follows others decided settles desk lamp =
+    let sensed_are : (record sensed_rows { calls = mid }) ≡ record old { detectors = sensed_rows.detectors; calls = mid; preempts = sensed_rows.preempts } =
+    ap (λ (r : Rows). let set_rows : Rows = record r { calls = mid } in set_rows) sensed.rest in
+    let run_are : run_rows ≡ record old { detectors = sensed_rows.detectors; calls = mid; preempts = sensed_rows.preempts; overlaps = run_rows.overlaps } =
+    ran.rest ∙ ap (λ (r : Rows). let run_on_rows : Rows = record r { overlaps = run_rows.overlaps } in run_on_rows) sensed_are in
+    let own_ran : IsRunOn now s plan (record old { detectors = sensed_rows.detectors; calls = mid; preempts = sensed_rows.preempts })
+    (record old { detectors = sensed_rows.detectors; calls = mid; preempts = sensed_rows.preempts; overlaps = run_rows.overlaps }) holding =
+    subst (λ (r : Rows). IsRunOn now s plan (record old { detectors = sensed_rows.detectors; calls = mid; preempts = sensed_rows.preempts }) r holding) run_are
+    (subst (λ (r : Rows). IsRunOn now s plan r run_rows holding) sensed_are ran) in
+    let own_run : IsMoved now s called holding plan (record old { detectors = sensed_rows.detectors; calls = mid; preempts = sensed_rows.preempts; overlaps = run_rows.overlaps }) moved_rows m =
+    subst (λ (r : Rows). IsMoved now s called holding plan r moved_rows m) run_are run in
+    let given_are : given_rows ≡ record old { detectors = sensed_rows.detectors; calls = mid; phases = moved_rows.phases; rings = given_rows.rings; preempts = sensed_rows.preempts; overlaps = run_rows.overlaps } =
+    rest ∙ ap (λ (r : Rows). let given_up_rows : Rows = record r { rings = given_rows.rings } in given_up_rows) own_run.rest in
+    let all : settled_rows ≡ record old { detectors = sensed_rows.detectors; calls = mid; phases = moved_rows.phases; rings = given_rows.rings; preempts = sensed_rows.preempts; overlaps = settled_rows.overlaps } =
+    others ∙ ap (λ (r : Rows). let following_rows : Rows = record r { overlaps = settled_rows.overlaps } in following_rows) given_are in
     ap (λ (r : Rows). state_of now (untripped plan desk lamp) (record r { calls = new })) all
     ∙ joined now plan desk lamp row old sensed_rows mid s called one placed by sensed
     (subst (λ (r : Rows). calls.IsSet (observed row s) plan r.calls mid) sensed.rest sets)
     (subst (λ (r : Rows). calls.TellsCalled (observed row s) plan r.calls called) sensed.rest calls_told)
-    moved_rows m own_run given_rows gave d new decided (subst (λ (xs : List ℕ). calls.IsSettled d xs new) (ap (λ (r : Rows). r.calls) all) settled)
+    run_rows.overlaps holding moved_rows m own_ran own_run given_rows settled_rows gave
+    (subst (λ (r : Rows). IsSettled now s plan r settled_rows) given_are follows)
+    d new decided (subst (λ (xs : List ℕ). calls.IsSettled d xs new) (ap (λ (r : Rows). r.calls) all) settles)

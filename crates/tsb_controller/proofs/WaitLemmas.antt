@@ -23,6 +23,10 @@ use Rattle.tsb_preempt.specs.Cells.{preempts_in, service_in, stage_in}
 use Rattle.tsb_preempt.specs.Preempts as preempts
 use Rattle.tsb_preempt.specs.Preempts.{Preempts, is_preempt}
 use Rattle.tsb_preempt.specs.Service.{service_as_read}
+use Rattle.tsb_overlap.specs.Cells as overlap_cells
+use Rattle.tsb_overlap.specs.Cells.{is_overlap, overlap_in}
+use Rattle.tsb_overlap.specs.Overlap as overlap
+use Rattle.tsb_overlap.proofs.CellLemmas.{among-overlaps}
 use Rattle.tsb_step.specs.Cells.{clock_at}
 use Rattle.tsb_step.specs.MonitorCells.{trip_in}
 use Rattle.tsb_step.specs.Quiet.{detectors_waited, waited}
@@ -111,6 +115,18 @@ preempts-wait now row by = λ i. record (preempts_in now row) {
   service = service-waits now row by i;
 }
 
+-- ## Overlaps
+
+overlaps-wait : (now : ℕ) (row : List ℕ) → overlap_cells.IsBy now row → overlap_in (now + 1) row ≡ (λ o. overlap.as_read (overlap_in now row o))
+unfolding overlap_in
+overlaps-wait now row by = fun_ext (λ o. at o)
+  where
+    at : (o : ℕ) → overlap_in (now + 1) row o ≡ overlap.as_read (overlap_in now row o)
+    at o = elim (cases_Bool (is_overlap o)) [
+      | inl on ↦ rw (on, timer_at-next now (slice_index row (5 + o)) (by.each o (among-overlaps o on).from (among-overlaps o on).to).timer) refl
+      | inr off ↦ rw off refl
+    ]
+
 -- ## All of it
 
 pub rows-wait : (now : ℕ) (a : All) → AreAllBy now a → all_in (now + 1) a ≡ waited (all_in now a)
@@ -125,5 +141,6 @@ rows-wait now a by = at (trip_in a.monitor) by.layers
       detectors = detectors-wait now a.layers.detectors held.detectors i;
       phases = phases-wait now a.layers.phases held.phases i;
       preempts = preempts-wait now a.layers.preempts held.preempts i;
+      overlaps = overlaps-wait now a.layers.overlaps held.overlaps i;
     }
     at (Some trip) held = refl

@@ -19,6 +19,8 @@ use Rattle.tsb_coord.specs.Cells.{pattern_in, correction_in, start_in}
 use Rattle.tsb_coord.proofs.CellLemmas as coord
 use Rattle.tsb_preempt.specs.Cells.{preempts_in}
 use Rattle.tsb_preempt.proofs.ReadLemmas as preempts
+use Rattle.tsb_overlap.specs.Cells.{overlap_in, omitted_in}
+use Rattle.tsb_overlap.proofs.ToldLemmas as overlaps
 use Rattle.tsb_transact.specs.Cells.{desk_in}
 use Rattle.tsb_transact.specs.Laws as desk
 use Rattle.tsb_step.specs.Cells.{cells_of, state_in, clock_at}
@@ -34,8 +36,9 @@ use Rattle.tsb_phase.specs.declared.TheConstants.{CELLS as PHASE_CELLS}
 use Rattle.tsb_ring.specs.declared.TheConstants.{CELLS as RING_CELLS}
 use Rattle.tsb_coord.specs.declared.TheConstants.{CELLS as PATTERN_CELLS}
 use Rattle.tsb_preempt.specs.declared.TheConstants.{CELLS as PREEMPT_CELLS}
+use Rattle.tsb_overlap.specs.declared.TheConstants.{CELLS as OVERLAP_CELLS}
 use Rattle.tsb_step.specs.declared.TheConstants.{MONITOR_CELLS}
-use Rattle.tsb_step.specs.declared.first_cell.TheConstants.{DESK, DETECTORS, CALLS, PHASES, RINGS, COORD, PREEMPTS, MONITOR, ALL_CELLS}
+use Rattle.tsb_step.specs.declared.first_cell.TheConstants.{DESK, DETECTORS, CALLS, PHASES, RINGS, COORD, PREEMPTS, OVERLAPS, MONITOR, ALL_CELLS}
 use Rattle.tsb_controller.specs.Whole.{All, AreFull, AreAllBy, whole, all_in, all_changes, all_put_back, RowsAreTold, RecordsAreJoined, RecordsGoBack, RecordsGiveBack, RecordsAreFew}
 use Rattle.tsb_controller.proofs.FewLemmas.{few}
 use Rattle.tsb_step.proofs.tsb_plan.ToldLemmas.{plan_cells-plan_in}
@@ -50,13 +53,15 @@ full now a by = record {
   rings = by.layers.rings.full;
   pattern = by.layers.pattern.full;
   preempts = by.layers.preempts.full;
+  overlaps = by.layers.overlaps.full;
   monitor = by.monitor.full;
 }
 
 -- ## The table
 
-pub regrouped : (a b c d e f g h i : List ℕ) → ((((((((a ++ b) ++ c) ++ d) ++ e) ++ f) ++ g) ++ h) ++ i) ≡ a ++ (b ++ (c ++ (d ++ (e ++ (f ++ (g ++ (h ++ i)))))))
-regrouped a b c d e f g h i = simp (append_assoc)
+pub regrouped : (a b c d e f g h i j : List ℕ) →
+    (((((((((a ++ b) ++ c) ++ d) ++ e) ++ f) ++ g) ++ h) ++ i) ++ j) ≡ a ++ (b ++ (c ++ (d ++ (e ++ (f ++ (g ++ (h ++ (i ++ j))))))))
+regrouped a b c d e f g h i j = simp (append_assoc)
 
 together : List ℕ → List ℕ → List ℕ
 together xs ys = xs ++ ys
@@ -65,7 +70,7 @@ pub rows-told : desk.RowsAreTold → RowsAreTold
 unfolding cells_of together
 rows-told desk_told now a by =
     let clock : ℕ = clock_at now (trip_in a.monitor) in
-    ap₂ together (ap₂ together (ap₂ together (ap₂ together (ap₂ together (ap₂ together (ap₂ together (ap₂ together
+    ap₂ together (ap₂ together (ap₂ together (ap₂ together (ap₂ together (ap₂ together (ap₂ together (ap₂ together (ap₂ together
     (plan_cells-plan_in a.plan by.plan)
     (desk_told a.desk by.desk))
     (detect.detectors-told clock a.layers.detectors by.layers.detectors))
@@ -74,8 +79,9 @@ rows-told desk_told now a by =
     (rings.rows-told a.layers.rings by.layers.rings))
     (coord.row_told a.layers.pattern by.layers.pattern))
     (preempts.preempts-told clock a.layers.preempts by.layers.preempts))
+    (overlaps.overlaps-told clock a.layers.overlaps by.layers.overlaps))
     (monitor.rows-told now a.monitor by.monitor)
-    ∙ regrouped a.plan a.desk a.layers.detectors a.layers.calls a.layers.phases a.layers.rings a.layers.pattern a.layers.preempts a.monitor
+    ∙ regrouped a.plan a.desk a.layers.detectors a.layers.calls a.layers.phases a.layers.rings a.layers.pattern a.layers.preempts a.layers.overlaps a.monitor
 
 -- ## Differences
 
@@ -92,8 +98,8 @@ first n xs vs ys ws long also =
     ∙ ap (λ (m : ℕ). diff xs vs ++ shifted m (diff ys ws)) long
     ∙ ap (λ (es : List (ℕ × ℕ)). diff xs vs ++ es) (sym (diff_from-shifted n ys ws))
 
-layers-behind : (a b c d e f g : List (ℕ × ℕ)) → a ++ (b ++ (c ++ (d ++ (e ++ (f ++ g))))) ≡ (a ++ (b ++ (c ++ (d ++ (e ++ f))))) ++ g
-layers-behind a b c d e f g = simp (append_assoc)
+layers-behind : (a b c d e f g h : List (ℕ × ℕ)) → a ++ (b ++ (c ++ (d ++ (e ++ (f ++ (g ++ h)))))) ≡ (a ++ (b ++ (c ++ (d ++ (e ++ (f ++ g)))))) ++ h
+layers-behind a b c d e f g h = simp (append_assoc)
 
 pub whole-differs : (a b : All) → AreFull a → AreFull b → diff (whole a) (whole b) ≡ all_changes a b
 whole-differs a b long also =
@@ -111,10 +117,12 @@ whole-differs a b long also =
     ∙ ap (λ (es : List (ℕ × ℕ)). shifted RINGS (diff a.layers.rings b.layers.rings) ++ es)
     (beside COORD PATTERN_CELLS a.layers.pattern b.layers.pattern _ _ long.pattern also.pattern
     ∙ ap (λ (es : List (ℕ × ℕ)). shifted COORD (diff a.layers.pattern b.layers.pattern) ++ es)
-    (beside PREEMPTS PREEMPT_CELLS a.layers.preempts b.layers.preempts a.monitor b.monitor long.preempts also.preempts
-    ∙ ap (λ (es : List (ℕ × ℕ)). shifted PREEMPTS (diff a.layers.preempts b.layers.preempts) ++ es) (diff_from-shifted MONITOR a.monitor b.monitor))))))
+    (beside PREEMPTS PREEMPT_CELLS a.layers.preempts b.layers.preempts _ _ long.preempts also.preempts
+    ∙ ap (λ (es : List (ℕ × ℕ)). shifted PREEMPTS (diff a.layers.preempts b.layers.preempts) ++ es)
+    (beside OVERLAPS OVERLAP_CELLS a.layers.overlaps b.layers.overlaps a.monitor b.monitor long.overlaps also.overlaps
+    ∙ ap (λ (es : List (ℕ × ℕ)). shifted OVERLAPS (diff a.layers.overlaps b.layers.overlaps) ++ es) (diff_from-shifted MONITOR a.monitor b.monitor)))))))
     ∙ layers-behind (shifted DETECTORS (diff a.layers.detectors b.layers.detectors)) (shifted CALLS (diff a.layers.calls b.layers.calls)) (shifted PHASES (diff a.layers.phases b.layers.phases)) (shifted RINGS (diff a.layers.rings b.layers.rings)) (shifted COORD (diff a.layers.pattern b.layers.pattern)) (shifted PREEMPTS (diff a.layers.preempts b.layers.preempts))
-    (shifted MONITOR (diff a.monitor b.monitor))))
+    (shifted OVERLAPS (diff a.layers.overlaps b.layers.overlaps)) (shifted MONITOR (diff a.monitor b.monitor))))
 
 pub records-joined : desk.RowsAreTold → RecordsAreJoined
 records-joined desk_told i m n old new by by_new =
@@ -156,27 +164,32 @@ whole-back a es long within =
     ∙ ap (λ (xs : List ℕ). apply_diff a.layers.rings (part RINGS RING_CELLS es) ++ xs)
     (parts COORD PATTERN_CELLS (ALL_CELLS - PREEMPTS) a.layers.pattern _ es long.pattern l7
     ∙ ap (λ (xs : List ℕ). apply_diff a.layers.pattern (part COORD PATTERN_CELLS es) ++ xs)
-    (parts PREEMPTS PREEMPT_CELLS MONITOR_CELLS a.layers.preempts a.monitor es long.preempts long.monitor)))))))
+    (parts PREEMPTS PREEMPT_CELLS (ALL_CELLS - OVERLAPS) a.layers.preempts _ es long.preempts l8
+    ∙ ap (λ (xs : List ℕ). apply_diff a.layers.preempts (part PREEMPTS PREEMPT_CELLS es) ++ xs)
+    (parts OVERLAPS OVERLAP_CELLS MONITOR_CELLS a.layers.overlaps a.monitor es long.overlaps long.monitor))))))))
   where
-    l7 : length (a.layers.preempts ++ a.monitor) ≡ ALL_CELLS - PREEMPTS
-    l7 = behind PREEMPT_CELLS MONITOR_CELLS a.layers.preempts a.monitor long.preempts long.monitor
+    l8 : length (a.layers.overlaps ++ a.monitor) ≡ ALL_CELLS - OVERLAPS
+    l8 = behind OVERLAP_CELLS MONITOR_CELLS a.layers.overlaps a.monitor long.overlaps long.monitor
 
-    l6 : length (a.layers.pattern ++ (a.layers.preempts ++ a.monitor)) ≡ ALL_CELLS - COORD
+    l7 : length (a.layers.preempts ++ (a.layers.overlaps ++ a.monitor)) ≡ ALL_CELLS - PREEMPTS
+    l7 = behind PREEMPT_CELLS (ALL_CELLS - OVERLAPS) a.layers.preempts _ long.preempts l8
+
+    l6 : length (a.layers.pattern ++ (a.layers.preempts ++ (a.layers.overlaps ++ a.monitor))) ≡ ALL_CELLS - COORD
     l6 = behind PATTERN_CELLS (ALL_CELLS - PREEMPTS) a.layers.pattern _ long.pattern l7
 
-    l5 : length (a.layers.rings ++ (a.layers.pattern ++ (a.layers.preempts ++ a.monitor))) ≡ ALL_CELLS - RINGS
+    l5 : length (a.layers.rings ++ (a.layers.pattern ++ (a.layers.preempts ++ (a.layers.overlaps ++ a.monitor)))) ≡ ALL_CELLS - RINGS
     l5 = behind RING_CELLS (ALL_CELLS - COORD) a.layers.rings _ long.rings l6
 
-    l4 : length (a.layers.phases ++ (a.layers.rings ++ (a.layers.pattern ++ (a.layers.preempts ++ a.monitor)))) ≡ ALL_CELLS - PHASES
+    l4 : length (a.layers.phases ++ (a.layers.rings ++ (a.layers.pattern ++ (a.layers.preempts ++ (a.layers.overlaps ++ a.monitor))))) ≡ ALL_CELLS - PHASES
     l4 = behind PHASE_CELLS (ALL_CELLS - RINGS) a.layers.phases _ long.phases l5
 
-    l3 : length (a.layers.calls ++ (a.layers.phases ++ (a.layers.rings ++ (a.layers.pattern ++ (a.layers.preempts ++ a.monitor))))) ≡ ALL_CELLS - CALLS
+    l3 : length (a.layers.calls ++ (a.layers.phases ++ (a.layers.rings ++ (a.layers.pattern ++ (a.layers.preempts ++ (a.layers.overlaps ++ a.monitor)))))) ≡ ALL_CELLS - CALLS
     l3 = behind CALL_CELLS (ALL_CELLS - PHASES) a.layers.calls _ long.calls l4
 
-    l2 : length (a.layers.detectors ++ (a.layers.calls ++ (a.layers.phases ++ (a.layers.rings ++ (a.layers.pattern ++ (a.layers.preempts ++ a.monitor)))))) ≡ ALL_CELLS - DETECTORS
+    l2 : length (a.layers.detectors ++ (a.layers.calls ++ (a.layers.phases ++ (a.layers.rings ++ (a.layers.pattern ++ (a.layers.preempts ++ (a.layers.overlaps ++ a.monitor))))))) ≡ ALL_CELLS - DETECTORS
     l2 = behind DETECTOR_CELLS (ALL_CELLS - CALLS) a.layers.detectors _ long.detectors l3
 
-    l1 : length (a.desk ++ (a.layers.detectors ++ (a.layers.calls ++ (a.layers.phases ++ (a.layers.rings ++ (a.layers.pattern ++ (a.layers.preempts ++ a.monitor))))))) ≡ ALL_CELLS - DESK
+    l1 : length (a.desk ++ (a.layers.detectors ++ (a.layers.calls ++ (a.layers.phases ++ (a.layers.rings ++ (a.layers.pattern ++ (a.layers.preempts ++ (a.layers.overlaps ++ a.monitor)))))))) ≡ ALL_CELLS - DESK
     l1 = behind DESK_CELLS (ALL_CELLS - DETECTORS) a.desk _ long.desk l2
 
 -- ## Reading
@@ -208,20 +221,26 @@ module _ (a : All) (long : AreFull a) where
   abbrev b7 : List ℕ
   b7 = (((((a.plan ++ a.desk) ++ a.layers.detectors) ++ a.layers.calls) ++ a.layers.phases) ++ a.layers.rings) ++ a.layers.pattern
 
+  abbrev b8 : List ℕ
+  b8 = ((((((a.plan ++ a.desk) ++ a.layers.detectors) ++ a.layers.calls) ++ a.layers.phases) ++ a.layers.rings) ++ a.layers.pattern) ++ a.layers.preempts
+
+  abbrev t7 : List ℕ
+  t7 = a.layers.preempts ++ (a.layers.overlaps ++ a.monitor)
+
   abbrev t6 : List ℕ
-  t6 = a.layers.pattern ++ (a.layers.preempts ++ a.monitor)
+  t6 = a.layers.pattern ++ (a.layers.preempts ++ (a.layers.overlaps ++ a.monitor))
 
   abbrev t5 : List ℕ
-  t5 = a.layers.rings ++ (a.layers.pattern ++ (a.layers.preempts ++ a.monitor))
+  t5 = a.layers.rings ++ (a.layers.pattern ++ (a.layers.preempts ++ (a.layers.overlaps ++ a.monitor)))
 
   abbrev t4 : List ℕ
-  t4 = a.layers.phases ++ (a.layers.rings ++ (a.layers.pattern ++ (a.layers.preempts ++ a.monitor)))
+  t4 = a.layers.phases ++ (a.layers.rings ++ (a.layers.pattern ++ (a.layers.preempts ++ (a.layers.overlaps ++ a.monitor))))
 
   abbrev t3 : List ℕ
-  t3 = a.layers.calls ++ (a.layers.phases ++ (a.layers.rings ++ (a.layers.pattern ++ (a.layers.preempts ++ a.monitor))))
+  t3 = a.layers.calls ++ (a.layers.phases ++ (a.layers.rings ++ (a.layers.pattern ++ (a.layers.preempts ++ (a.layers.overlaps ++ a.monitor)))))
 
   abbrev t2 : List ℕ
-  t2 = a.layers.detectors ++ (a.layers.calls ++ (a.layers.phases ++ (a.layers.rings ++ (a.layers.pattern ++ (a.layers.preempts ++ a.monitor)))))
+  t2 = a.layers.detectors ++ (a.layers.calls ++ (a.layers.phases ++ (a.layers.rings ++ (a.layers.pattern ++ (a.layers.preempts ++ (a.layers.overlaps ++ a.monitor))))))
 
   n2 : length b2 ≡ DETECTORS
   n2 = behind PLAN_CELLS DESK_CELLS a.plan a.desk long.plan long.desk
@@ -241,8 +260,11 @@ module _ (a : All) (long : AreFull a) where
   n7 : length b7 ≡ PREEMPTS
   n7 = behind COORD PATTERN_CELLS b6 a.layers.pattern n6 long.pattern
 
-  n8 : length (b7 ++ a.layers.preempts) ≡ MONITOR
+  n8 : length b8 ≡ OVERLAPS
   n8 = behind PREEMPTS PREEMPT_CELLS b7 a.layers.preempts n7 long.preempts
+
+  n9 : length (b8 ++ a.layers.overlaps) ≡ MONITOR
+  n9 = behind OVERLAPS OVERLAP_CELLS b8 a.layers.overlaps n8 long.overlaps
 
   e2 : whole a ≡ b2 ++ t2
   e2 = sym (append_assoc a.plan a.desk t2)
@@ -259,14 +281,17 @@ module _ (a : All) (long : AreFull a) where
   e6 : whole a ≡ b6 ++ t6
   e6 = e5 ∙ sym (append_assoc b5 a.layers.rings t6)
 
-  e7 : whole a ≡ b7 ++ (a.layers.preempts ++ a.monitor)
-  e7 = e6 ∙ sym (append_assoc b6 a.layers.pattern (a.layers.preempts ++ a.monitor))
+  e7 : whole a ≡ b7 ++ t7
+  e7 = e6 ∙ sym (append_assoc b6 a.layers.pattern t7)
 
-  e8 : whole a ≡ (b7 ++ a.layers.preempts) ++ a.monitor
-  e8 = e7 ∙ sym (append_assoc b7 a.layers.preempts a.monitor)
+  e8 : whole a ≡ b8 ++ (a.layers.overlaps ++ a.monitor)
+  e8 = e7 ∙ sym (append_assoc b7 a.layers.preempts (a.layers.overlaps ++ a.monitor))
+
+  e9 : whole a ≡ (b8 ++ a.layers.overlaps) ++ a.monitor
+  e9 = e8 ∙ sym (append_assoc b8 a.layers.overlaps a.monitor)
 
   pub whole-full : length (whole a) ≡ ALL_CELLS
-  whole-full = ap length e8 ∙ behind MONITOR MONITOR_CELLS (b7 ++ a.layers.preempts) a.monitor n8 long.monitor
+  whole-full = ap length e9 ∙ behind MONITOR MONITOR_CELLS (b8 ++ a.layers.overlaps) a.monitor n9 long.monitor
 
   plan-read : row_at PLAN_CELLS (whole a) 0 ≡ a.plan
   plan-read = row-in [] a.plan (a.desk ++ t2) 0 PLAN_CELLS refl long.plan
@@ -287,13 +312,16 @@ module _ (a : All) (long : AreFull a) where
   rings-read = ap (λ (xs : List ℕ). row_at RING_CELLS xs RINGS) e5 ∙ row-in b5 a.layers.rings t6 RINGS RING_CELLS n5 long.rings
 
   pattern-read : row_at PATTERN_CELLS (whole a) COORD ≡ a.layers.pattern
-  pattern-read = ap (λ (xs : List ℕ). row_at PATTERN_CELLS xs COORD) e6 ∙ row-in b6 a.layers.pattern (a.layers.preempts ++ a.monitor) COORD PATTERN_CELLS n6 long.pattern
+  pattern-read = ap (λ (xs : List ℕ). row_at PATTERN_CELLS xs COORD) e6 ∙ row-in b6 a.layers.pattern t7 COORD PATTERN_CELLS n6 long.pattern
 
   preempts-read : row_at PREEMPT_CELLS (whole a) PREEMPTS ≡ a.layers.preempts
-  preempts-read = ap (λ (xs : List ℕ). row_at PREEMPT_CELLS xs PREEMPTS) e7 ∙ row-in b7 a.layers.preempts a.monitor PREEMPTS PREEMPT_CELLS n7 long.preempts
+  preempts-read = ap (λ (xs : List ℕ). row_at PREEMPT_CELLS xs PREEMPTS) e7 ∙ row-in b7 a.layers.preempts (a.layers.overlaps ++ a.monitor) PREEMPTS PREEMPT_CELLS n7 long.preempts
+
+  overlaps-read : row_at OVERLAP_CELLS (whole a) OVERLAPS ≡ a.layers.overlaps
+  overlaps-read = ap (λ (xs : List ℕ). row_at OVERLAP_CELLS xs OVERLAPS) e8 ∙ row-in b8 a.layers.overlaps a.monitor OVERLAPS OVERLAP_CELLS n8 long.overlaps
 
   monitor-read : row_at MONITOR_CELLS (whole a) MONITOR ≡ a.monitor
-  monitor-read = ap (λ (xs : List ℕ). row_at MONITOR_CELLS xs MONITOR) e8 ∙ last (b7 ++ a.layers.preempts) a.monitor MONITOR MONITOR_CELLS n8 long.monitor
+  monitor-read = ap (λ (xs : List ℕ). row_at MONITOR_CELLS xs MONITOR) e9 ∙ last (b8 ++ a.layers.overlaps) a.monitor MONITOR MONITOR_CELLS n9 long.monitor
 
   pub whole-read : (now : ℕ) → state_in now (whole a) ≡ all_in now a
   unfolding state_in
@@ -309,6 +337,8 @@ module _ (a : All) (long : AreFull a) where
     phases = phase_in (clock_at now (trip_in (monitor-read i))) (phases-read i);
     rings = rings_in (rings-read i);
     preempts = preempts_in (clock_at now (trip_in (monitor-read i))) (preempts-read i);
+    overlaps = overlap_in (clock_at now (trip_in (monitor-read i))) (overlaps-read i);
+    omitted = omitted_in (overlaps-read i);
     lamp = lamp_in (monitor-read i);
     trip = trip_in (monitor-read i);
   }
@@ -329,6 +359,7 @@ whole-same a b long also same = λ i. record {
     rings = same-row RING_CELLS RINGS a.layers.rings b.layers.rings (whole a) (whole b) (rings-read a long) (rings-read b also) same i;
     pattern = same-row PATTERN_CELLS COORD a.layers.pattern b.layers.pattern (whole a) (whole b) (pattern-read a long) (pattern-read b also) same i;
     preempts = same-row PREEMPT_CELLS PREEMPTS a.layers.preempts b.layers.preempts (whole a) (whole b) (preempts-read a long) (preempts-read b also) same i;
+    overlaps = same-row OVERLAP_CELLS OVERLAPS a.layers.overlaps b.layers.overlaps (whole a) (whole b) (overlaps-read a long) (overlaps-read b also) same i;
   };
   monitor = same-row MONITOR_CELLS MONITOR a.monitor b.monitor (whole a) (whole b) (monitor-read a long) (monitor-read b also) same i;
 }
@@ -343,6 +374,7 @@ back-full a es long = record {
   rings = length-apply_diff a.layers.rings (part RINGS RING_CELLS es) ∙ long.rings;
   pattern = length-apply_diff a.layers.pattern (part COORD PATTERN_CELLS es) ∙ long.pattern;
   preempts = length-apply_diff a.layers.preempts (part PREEMPTS PREEMPT_CELLS es) ∙ long.preempts;
+  overlaps = length-apply_diff a.layers.overlaps (part OVERLAPS OVERLAP_CELLS es) ∙ long.overlaps;
   monitor = length-apply_diff a.monitor (part MONITOR MONITOR_CELLS es) ∙ long.monitor;
 }
 

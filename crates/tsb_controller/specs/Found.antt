@@ -1,14 +1,15 @@
 -- What a tick finds, and what it does, step by step, in the words of the layers' contracts, over rows of cells: `old`
 -- before a step, `new` after it.
-use Rattle.std.specs.Prelude.{◌≡◌, ℕ, Bool, true, false, if◌then◌else◌, List, Option, Some, None, option_map}
+use Rattle.std.specs.Prelude.{◌≡◌, ℕ, Bool, true, false, not, ◌&&◌, ◌⊎◌, if◌then◌else◌, List, Option, Some, None, is_some, option_map}
 use Rattle.tsb_step.specs.tsb_types.declared.flow.Called.{Called}
 use Rattle.tsb_step.specs.tsb_types.declared.flow.Intervals.{Intervals}
 use Rattle.tsb_step.specs.tsb_types.declared.flow.Orders.{Orders}
+use Rattle.tsb_step.specs.tsb_types.declared.flow.OverlapLights.{OverlapLights}
 use Rattle.tsb_step.specs.tsb_types.declared.flow.Timing.{Timing}
 use Rattle.tsb_step.specs.tsb_types.declared.row.Row.{Row}
 use Rattle.tsb_step.specs.tsb_types.declared.phase_set.PhaseSet.{PhaseSet}
 use Rattle.tsb_step.specs.tsb_types.Sets.{has}
-use Rattle.tsb_step.specs.tsb_plan.Parts.{is_anew}
+use Rattle.tsb_step.specs.tsb_plan.Parts.{is_anew, is_timed}
 use Rattle.tsb_step.specs.tsb_plan.Plan.{Plan}
 use Rattle.tsb_detect.specs.declared.greens.Greens.{Greens}
 use Rattle.tsb_detect.specs.Cells as detect_cells
@@ -29,6 +30,12 @@ use Rattle.tsb_preempt.specs.Service.{Service}
 use Rattle.tsb_preempt.specs.Cells as preempt_cells
 use Rattle.tsb_preempt.specs.Cells.{preempts_in}
 use Rattle.tsb_preempt.specs.Promises as preempts
+use Rattle.tsb_overlap.specs.declared.surroundings.Surroundings.{Surroundings}
+use Rattle.tsb_overlap.specs.Cells.{omitted_in}
+use Rattle.tsb_overlap.specs.Cells as overlap_cells
+use Rattle.tsb_overlap.specs.Layer.{KeepsOmitted}
+use Rattle.tsb_overlap.specs.Promises as overlaps
+use Rattle.tsb_overlap.specs.Reading.{given_by}
 use Rattle.tsb_heads.specs.Promises as heads
 use Rattle.tsb_controller.specs.declared.values.Sensed.{Sensed}
 use Rattle.tsb_controller.specs.declared.values.Movement.{Movement}
@@ -110,19 +117,34 @@ pub record IsSensed (now : ℕ) (row : Row) (plan : Plan) (old new : Rows) (s : 
   pub actuated_are : detect.TellsActuations new.detectors s.actuated
   pub rest : new ≡ record old { detectors = new.detectors; preempts = new.preempts }
 
+-- arrows and overlaps that trail run on, and those that trail hold phases in clearance; no other row changes
+pub record IsRunOn (now : ℕ) (s : Sensed) (plan : Plan) (old new : Rows) (held : PhaseSet) : Type 0 where
+  pub state : overlaps.IsRunOn now (is_some s.service) plan old.overlaps new.overlaps
+  pub omitted : KeepsOmitted old.overlaps new.overlaps
+  pub holding : overlaps.AreHeld now (is_some s.service) plan old.overlaps held
+  pub overlaps_by : overlap_cells.IsBy now new.overlaps
+  pub rest : new ≡ record old { overlaps = new.overlaps }
+
+-- what phase timing gives the rings, where overlaps hold these phases: they are not over
+pub record IsHeldBack (held : PhaseSet) (old new : Timing) : Type 0 where
+  pub over : (p : ℕ) → has new.over p ≡ (has old.over p && not (has held p))
+  pub rest : new ≡ record old { over = new.over }
+
 -- the times of phases run, the rings decide, and their moves are carried out on phases and rings; no other row changes
-pub record IsMoved (now : ℕ) (s : Sensed) (called : Called) (plan : Plan) (old new : Rows) (m : Movement) : Type 0 where
+pub record IsMoved (now : ℕ) (s : Sensed) (called : Called) (held : PhaseSet) (plan : Plan) (old new : Rows) (m : Movement) : Type 0 where
   pub conditions : phase_conditions.Conditions
   pub counts : List ℕ
   pub lent : calls.LendsCounts old.calls counts
   pub conditions_are : AreConditions s called counts conditions
   pub timed : List ℕ
   pub ticked : phases.IsTicked now conditions plan old.phases timed
-  pub ready : phases.TellsReady now conditions plan old.phases m.timing
-  pub over : phases.TellsOver now plan old.phases m.timing
-  pub reverted : phases.TellsRedRevertPassed now plan old.phases m.timing
-  pub gapped : phases.TellsGapped now conditions plan old.phases m.timing
-  pub walks : phases.TellsWalks now conditions old.phases m.timing
+  pub timing : Timing
+  pub ready : phases.TellsReady now conditions plan old.phases timing
+  pub over : phases.TellsOver now plan old.phases timing
+  pub reverted : phases.TellsRedRevertPassed now plan old.phases timing
+  pub gapped : phases.TellsGapped now conditions plan old.phases timing
+  pub walks : phases.TellsWalks now conditions old.phases timing
+  pub held_back : IsHeldBack held timing m.timing
   pub decided : rings.IsDecided plan (for_rings s called m.timing) old.rings m.moves
   pub ones : AreOnes m.moves
   pub carried : IsCarriedOut m.moves now m.timing conditions plan timed new.phases
@@ -162,3 +184,36 @@ IsGivenUpFor (Some target) plan old new = IsGivenUpOutside (has target) plan old
 -- the target of the preempt in service counts, where that chooses anew
 abbrev pub IsGivenUp : Sensed → Plan → Rows → Rows → Type 0
 IsGivenUp s plan old new = IsGivenUpFor (if is_anew plan s.service then s.asked.target else None) plan old new
+
+-- ## Overlaps that have intervals of their own
+
+-- what overlaps see: which phases were Green, whether a preempt is in service, and phases and commitments as these rows have
+-- them
+pub record AreSeen (was_green : PhaseSet) (preempted : Bool) (phases_row rings_row : List ℕ) (seen : Surroundings) : Type 0 where
+  pub was_green_is : seen.was_green ≡ was_green
+  pub intervals_are : phases.TellsIntervals phases_row seen.intervals
+  pub pedestrians_are : phases.TellsPedestrians phases_row seen.pedestrians
+  pub since_are : phases.TellsSince phases_row seen.since.now
+  pub first_is : rings.TellsCommitment rings_row 1 seen.ring_1
+  pub second_is : rings.TellsCommitment rings_row 2 seen.ring_2
+  pub preempted_is : seen.is_preempted ≡ preempted
+
+-- the plan has no arrow, and no overlap that trails
+abbrev pub HasNoneTimed : Plan → Type 0
+HasNoneTimed plan = (o : ℕ) → is_timed plan o ≡ false
+
+-- no row changes but that of the overlaps
+abbrev pub LeavesAllButOverlaps : Rows → Rows → Type 0
+LeavesAllButOverlaps old new = new ≡ record old { overlaps = new.overlaps }
+
+-- arrows and overlaps that trail follow the phases and the rings; no other row changes
+pub record IsFollowing (now : ℕ) (s : Sensed) (plan : Plan) (old new : Rows) : Type 0 where
+  pub seen : Surroundings
+  pub seen_are : AreSeen s.intervals.green (is_some s.service) old.phases old.rings seen
+  pub state : (lights : OverlapLights) → overlaps.IsSettled now (given_by now seen (omitted_in old.overlaps) lights) plan old.overlaps new.overlaps
+  pub omitted : KeepsOmitted old.overlaps new.overlaps
+  pub rest : new ≡ record old { overlaps = new.overlaps }
+
+-- where the plan has none, nothing changes
+abbrev pub IsSettled : ℕ → Sensed → Plan → Rows → Rows → Type 0
+IsSettled now s plan old new = (HasNoneTimed plan × (new ≡ old)) ⊎ IsFollowing now s plan old new

@@ -6,6 +6,7 @@ use Rattle.tsb_phase.specs.Layer as phases
 use Rattle.tsb_ring.specs.Layer as rings
 use Rattle.tsb_coord.specs.Layer as coord
 use Rattle.tsb_preempt.specs.Layer as preempts
+use Rattle.tsb_overlap.specs.Layer as overlaps
 use Rattle.tsb_controller.specs.declared.controller.Controller.{Controller}
 use Rattle.tsb_controller.specs.Rows.{Rows}
 
@@ -18,6 +19,7 @@ rows_of s = record {
   rings = rings.cells_of s.rings;
   pattern = coord.cells_of s.coord;
   preempts = preempts.cells_of s.preempts;
+  overlaps = overlaps.cells_of s.overlaps;
 }
 
 -- those at the last `open`, with which a record compares them
@@ -29,6 +31,7 @@ kept_of s = record {
   rings = rings.kept_of s.rings;
   pattern = coord.kept_of s.coord;
   preempts = preempts.kept_of s.preempts;
+  overlaps = overlaps.kept_of s.overlaps;
 }
 
 -- from `open` until `close_onto`: the cells of every layer may be written
@@ -39,6 +42,7 @@ pub record IsOpen (s : Controller) : Type 0 where
   pub rings : rings.is_open s.rings ≡ true
   pub coord : coord.is_open s.coord ≡ true
   pub preempts : preempts.is_open s.preempts ≡ true
+  pub overlaps : overlaps.is_open s.overlaps ≡ true
 
 -- before `open` and after `close_onto`, as at power-up: no layer's cells may be written
 pub record IsClosed (s : Controller) : Type 0 where
@@ -48,3 +52,4 @@ pub record IsClosed (s : Controller) : Type 0 where
   pub rings : rings.is_open s.rings ≡ false
   pub coord : coord.is_open s.coord ≡ false
   pub preempts : preempts.is_open s.preempts ≡ false
+  pub overlaps : overlaps.is_open s.overlaps ≡ false

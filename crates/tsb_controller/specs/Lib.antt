@@ -1,4 +1,4 @@
--- the rows of cells of the six layers, and the state that they have at a tick
+-- the rows of cells of the seven layers, and the state that they have at a tick
 pub mod Rows
 -- the rows of `Controller`, now and at the last `open`, and whether its layers are open
 pub mod Layer

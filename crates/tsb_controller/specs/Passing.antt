@@ -1,6 +1,6 @@
 -- Ticks that may be passed over: what a tick finds that leaves the phases as they were, and that ticks after it with the
 -- same inputs find and leave the same.
-use Rattle.std.specs.Prelude.{◌≡◌, ℕ, ◌-◌, ◌<◌, ◌≤◌, nat_lt, Bool, true, false, List, length, slice_get, Option, Some, None, option_map}
+use Rattle.std.specs.Prelude.{◌≡◌, ℕ, ◌-◌, ◌⊎◌, is_some, ◌<◌, ◌≤◌, nat_lt, Bool, true, false, List, length, slice_get, Option, Some, None, option_map}
 use Rattle.tsb_step.specs.tsb_types.declared.flow.Called.{Called}
 use Rattle.tsb_step.specs.tsb_types.declared.flow.Intervals.{Intervals}
 use Rattle.tsb_step.specs.tsb_types.declared.lamp.Lamp.{Lamp}
@@ -20,9 +20,11 @@ use Rattle.tsb_coord.specs.Promises as coord
 use Rattle.tsb_preempt.specs.Cells.{preempts_in}
 use Rattle.tsb_preempt.specs.Due as preempts_due
 use Rattle.tsb_preempt.specs.Service.{Service, stage_phases}
+use Rattle.tsb_overlap.specs.declared.surroundings.Surroundings.{Surroundings}
+use Rattle.tsb_overlap.specs.Promises as overlaps
 use Rattle.tsb_step.specs.declared.first_cell.TheConstants.{PHASES}
 use Rattle.tsb_controller.specs.declared.values.Sensed.{Sensed}
-use Rattle.tsb_controller.specs.Found.{observed, AreConditions}
+use Rattle.tsb_controller.specs.Found.{observed, AreConditions, AreSeen, HasNoneTimed}
 use Rattle.tsb_controller.specs.Promises.{IsTicked, IsWatchedTick}
 use Rattle.tsb_controller.specs.Records.{changes}
 use Rattle.tsb_controller.specs.Rows.{Rows, AreBy}
@@ -89,9 +91,25 @@ pub record ArePhasesStill (now : ℕ) (row : Row) (plan : Plan) (rows : Rows) (d
   pub gapped : phases.KeepsGapped now conditions plan rows.phases due
   pub walks : phases.KeepsWalks now conditions rows.phases due
 
+-- ## Of overlaps
+
+-- overlaps stay up to the tick that is due, while phases, rings and preempts are as these rows have them
+pub record AreOverlapsQuiet (now : ℕ) (plan : Plan) (rows : Rows) (due : ℕ) : Type 0 where
+  pub seen : Surroundings
+  pub intervals : Intervals
+  pub shown : phases.TellsIntervals rows.phases intervals
+  pub preempted : Bool
+  pub served : (n : ℕ) → preempted ≡ is_some (preempts_in n rows.preempts).service
+  pub seen_are : AreSeen intervals.green preempted rows.phases rows.rings seen
+  pub quiet : overlaps.AreQuietUntil now seen plan rows.overlaps due
+
+-- or the plan has none that could change
+abbrev pub AreOverlapsStill : ℕ → Plan → Rows → ℕ → Type 0
+AreOverlapsStill now plan rows due = HasNoneTimed plan ⊎ AreOverlapsQuiet now plan rows due
+
 -- ## Of the other layers
 
--- detectors and preempts stay, and coordination asks the same, up to the tick that is due
+-- detectors, preempts and overlaps stay, and coordination asks the same, up to the tick that is due
 pub record AreOthersStill (now : ℕ) (row : Row) (plan : Plan) (rows : Rows) (due : ℕ) : Type 0 where
   pub intervals : Intervals
   pub shown : phases.TellsIntervals rows.phases intervals
@@ -101,6 +119,7 @@ pub record AreOthersStill (now : ℕ) (row : Row) (plan : Plan) (rows : Rows) (d
   pub detectors : detect.IsQuiet now due row plan rows.detectors
   pub preempts : preempts_due.AreQuietUntil now row intervals plan rows.preempts due
   pub coordination : coord_due.KeepsOrders now plan rows.pattern due
+  pub overlaps : AreOverlapsStill now plan rows due
 
 -- ## With the record and the monitor
 

@@ -4,6 +4,8 @@ use Rattle.std.specs.Prelude.{◌≡◌, ℕ, ◌-◌, Bool, Option, None, is_so
 use Rattle.tsb_step.specs.tsb_types.declared.lamp.Lamp.{Lamp}
 use Rattle.tsb_step.specs.tsb_types.declared.row.Row.{Row}
 use Rattle.tsb_step.specs.tsb_types.declared.stage.Stage.{Stage}
+use Rattle.tsb_step.specs.tsb_types.declared.number_set.NumberSet.{NumberSet}
+use Rattle.tsb_step.specs.tsb_types.Sets.{has_number}
 use Rattle.tsb_step.specs.tsb_plan.Plan.{Plan}
 use Rattle.tsb_objects.specs.declared.checked.Checked.{Checked}
 use Rattle.tsb_objects.specs.Checked.{checked_plan}
@@ -72,6 +74,10 @@ abbrev pub IsSwitched : ℕ → Bool → Rows → Rows → Type 0
 IsSwitched n on old new = (now : ℕ) (b : Beside) → AreBy (clock_at now b.trip) old →
     state_of now b new ≡ with_switch n on (state_of now b old)
 
+-- `omit(set)`: these arrows are omitted, and no other
+abbrev pub IsOmitted : NumberSet → Rows → Rows → Type 0
+IsOmitted set old new = (now : ℕ) (b : Beside) → state_of now b new ≡ record (state_of now b old) { omitted = has_number set }
+
 -- `reset(now)`: the controller has not tripped, and no lamp is lit
 abbrev pub IsRestarted : ℕ → Rows → Rows → Type 0
 IsRestarted now old new = (b : Beside) → state_of now (untripped b.plan b.desk None) new ≡ restarted (state_of now b old)
@@ -95,6 +101,10 @@ TellsServing rows result = (now : ℕ) (b : Beside) (checked : Checked) → b.pl
 -- `is_preempted()`: a preempt is in service
 abbrev pub TellsPreempted : Rows → Bool → Type 0
 TellsPreempted rows result = (now : ℕ) (b : Beside) → result ≡ is_some (state_of now b rows).preempts.service
+
+-- `omitted_arrows()`
+abbrev pub TellsOmitted : Rows → NumberSet → Type 0
+TellsOmitted rows result = (now : ℕ) (b : Beside) (o : ℕ) → has_number result o ≡ (state_of now b rows).omitted o
 
 -- `stage()`
 abbrev pub TellsStage : Rows → Option (ℕ × Stage) → Type 0

@@ -7,7 +7,8 @@ use Rattle.tsb_phase.specs.declared.TheConstants.{CELLS as PHASE_CELLS}
 use Rattle.tsb_ring.specs.declared.TheConstants.{CELLS as RING_CELLS}
 use Rattle.tsb_coord.specs.declared.TheConstants.{CELLS as PATTERN_CELLS}
 use Rattle.tsb_preempt.specs.declared.TheConstants.{CELLS as PREEMPT_CELLS}
-use Rattle.tsb_step.specs.declared.first_cell.TheConstants.{DETECTORS, CALLS, PHASES, RINGS, COORD, PREEMPTS}
+use Rattle.tsb_overlap.specs.declared.TheConstants.{CELLS as OVERLAP_CELLS}
+use Rattle.tsb_step.specs.declared.first_cell.TheConstants.{DETECTORS, CALLS, PHASES, RINGS, COORD, PREEMPTS, OVERLAPS}
 use Rattle.tsb_controller.specs.Rows.{Rows}
 
 -- the cells that differ, each by its number among all cells, with what it held before
@@ -18,7 +19,8 @@ changes old new =
     (shifted PHASES (diff old.phases new.phases) ++
     (shifted RINGS (diff old.rings new.rings) ++
     (shifted COORD (diff old.pattern new.pattern) ++
-    shifted PREEMPTS (diff old.preempts new.preempts)))))
+    (shifted PREEMPTS (diff old.preempts new.preempts) ++
+    shifted OVERLAPS (diff old.overlaps new.overlaps))))))
 
 -- the rows with what a record says of each put back
 abbrev pub put_back : Rows → List (ℕ × ℕ) → Rows
@@ -29,6 +31,7 @@ put_back r es = record {
   rings = apply_diff r.rings (part RINGS RING_CELLS es);
   pattern = apply_diff r.pattern (part COORD PATTERN_CELLS es);
   preempts = apply_diff r.preempts (part PREEMPTS PREEMPT_CELLS es);
+  overlaps = apply_diff r.overlaps (part OVERLAPS OVERLAP_CELLS es);
 }
 
 -- a record has no more entries of any cells than there are of these, as every difference has

@@ -1,4 +1,4 @@
--- The rows of cells of the six layers side by side, and the state that is read in them at a tick.
+-- The rows of cells of the seven layers side by side, and the state that is read in them at a tick.
 use Rattle.std.specs.Prelude.{ℕ, List, Option, None}
 use Rattle.tsb_step.specs.tsb_types.declared.lamp.Lamp.{Lamp}
 use Rattle.tsb_step.specs.tsb_plan.Plan.{Plan}
@@ -14,6 +14,8 @@ use Rattle.tsb_coord.specs.Cells as coord
 use Rattle.tsb_coord.specs.Cells.{pattern_in, correction_in, start_in}
 use Rattle.tsb_preempt.specs.Cells as preempts
 use Rattle.tsb_preempt.specs.Cells.{preempts_in}
+use Rattle.tsb_overlap.specs.Cells as overlaps
+use Rattle.tsb_overlap.specs.Cells.{overlap_in, omitted_in}
 use Rattle.tsb_transact.specs.Desk.{Desk}
 use Rattle.tsb_step.specs.Cells.{clock_at}
 use Rattle.tsb_step.specs.State.{State, Tripped}
@@ -26,6 +28,7 @@ pub record Rows : Type 0 where
   pub rings : List ℕ
   pub pattern : List ℕ
   pub preempts : List ℕ
+  pub overlaps : List ℕ
 
 -- what a state has beside these rows, and `Controller` does not keep
 pub record Beside : Type 0 where
@@ -52,6 +55,8 @@ state_of now b r = record {
   phases = phase_in (clock_at now b.trip) r.phases;
   rings = rings_in r.rings;
   preempts = preempts_in (clock_at now b.trip) r.preempts;
+  overlaps = overlap_in (clock_at now b.trip) r.overlaps;
+  omitted = omitted_in r.overlaps;
   lamp = b.lamp;
   trip = b.trip;
 }
@@ -64,3 +69,4 @@ pub record AreBy (now : ℕ) (r : Rows) : Type 0 where
   pub rings : rings.IsBy r.rings
   pub pattern : coord.IsBy r.pattern
   pub preempts : preempts.IsBy now r.preempts
+  pub overlaps : overlaps.IsBy now r.overlaps

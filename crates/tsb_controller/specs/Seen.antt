@@ -3,12 +3,12 @@ use Rattle.std.specs.Prelude.{◌≡◌, ℕ, ◌+◌, ◌≤◌, Bool, false, n
 use Rattle.std.specs.List.{list_any}
 use Rattle.tsb_step.specs.tsb_types.declared.flow.Intervals.{Intervals}
 use Rattle.tsb_step.specs.tsb_types.declared.flow.Pedestrians.{Pedestrians}
+use Rattle.tsb_step.specs.tsb_types.declared.limits.TheConstants.{OVERLAPS}
 use Rattle.tsb_step.specs.tsb_types.declared.number_set.NumberSet.{NumberSet}
 use Rattle.tsb_step.specs.tsb_types.declared.phase_set.PhaseSet.{PhaseSet}
 use Rattle.tsb_step.specs.tsb_types.Clip.{Agree}
 use Rattle.tsb_step.specs.tsb_types.Lists.{run_from}
 use Rattle.tsb_step.specs.tsb_types.Sets.{has, has_number}
-use Rattle.tsb_step.specs.tsb_plan.Parts.{is_included}
 use Rattle.tsb_step.specs.tsb_plan.Plan.{Plan}
 use Rattle.tsb_step.specs.tsb_plan.Running.{running}
 use Rattle.tsb_detect.specs.Promises.{TellsActuations, TellsOutputs}
@@ -17,18 +17,25 @@ use Rattle.tsb_calls.specs.declared.standing.Standing.{Standing}
 use Rattle.tsb_calls.specs.Promises.{TellsStanding}
 use Rattle.tsb_coord.specs.Cells.{correction_in, pattern_in}
 use Rattle.tsb_coord.specs.Cycle.{comes_to_zero, cycle_state, yields}
+use Rattle.tsb_overlap.specs.Cells.{IsBy, overlap_in}
+use Rattle.tsb_overlap.specs.Overlap.{is_trail_green}
 use Rattle.tsb_step.specs.Cells.{clock_at}
-use Rattle.tsb_step.specs.Events.{selected, times_minimum, times_red, view}
+use Rattle.tsb_step.specs.Events.{is_by, selected, times_minimum, times_red, view}
 use Rattle.tsb_events.specs.declared.seen.Seen.{Seen}
 use Rattle.tsb_events.specs.declared.seen.Selected.{Selected}
 use Rattle.tsb_events.specs.Agree.{AgreeInAll, AgreeInSelected}
 use Rattle.tsb_events.specs.Seen.{selected_of, view_of}
 use Rattle.tsb_controller.specs.Rows.{Rows, Beside, state_of}
 
--- overlap o is none of the lit ones, and includes none of the phases in service
+-- overlap o is none of the lit ones, and none of the phases in service is one by which it is lit
 abbrev pub is_off_beside : Plan → NumberSet → PhaseSet → ℕ → Bool
 is_off_beside plan lit served o =
-    not (has_number lit o) && not (list_any (λ p. is_included plan o p && has served p) (run_from 1 16))
+    not (has_number lit o) && not (list_any (λ p. is_by plan o p && has served p) (run_from 1 16))
+
+-- the overlaps that are green after their phases, at whatever tick of a controller that can be in these rows; in flash none
+abbrev pub TellsTrails : Bool → Rows → NumberSet → Type 0
+TellsTrails tripped rows result = (now o : ℕ) → IsBy now rows.overlaps → 1 ≤ o → o ≤ OVERLAPS →
+    has_number result o ≡ (not tripped && is_trail_green (overlap_in now rows.overlaps o).interval)
 
 -- the standing calls, of phases in these intervals and parts: no button is pressed, and no order is given
 pub record IsStanding (intervals : Intervals) (pedestrians : Pedestrians) (plan : Plan) (rows : Rows) (result : Standing) : Type 0 where

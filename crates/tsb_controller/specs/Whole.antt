@@ -14,6 +14,7 @@ use Rattle.tsb_phase.specs.declared.TheConstants.{CELLS as PHASE_CELLS}
 use Rattle.tsb_ring.specs.declared.TheConstants.{CELLS as RING_CELLS}
 use Rattle.tsb_coord.specs.declared.TheConstants.{CELLS as PATTERN_CELLS}
 use Rattle.tsb_preempt.specs.declared.TheConstants.{CELLS as PREEMPT_CELLS}
+use Rattle.tsb_overlap.specs.declared.TheConstants.{CELLS as OVERLAP_CELLS}
 use Rattle.tsb_step.specs.declared.TheConstants.{MONITOR_CELLS}
 use Rattle.tsb_step.specs.declared.inputs.Input.{Input}
 use Rattle.tsb_step.specs.Cells.{cells_of, clock_at}
@@ -26,7 +27,7 @@ use Rattle.tsb_step.specs.declared.first_cell.TheConstants.{DESK, MONITOR, ALL_C
 use Rattle.tsb_controller.specs.Records.{changes, put_back, HasFew}
 use Rattle.tsb_controller.specs.Rows.{Rows, AreBy, state_of}
 
--- the cells of the bench: those of the plan, of the desk, of the six layers, and of the trip with the injected lamp
+-- the cells of the bench: those of the plan, of the desk, of the seven layers, and of the trip with the injected lamp
 pub record All : Type 0 where
   pub plan : List ℕ
   pub desk : List ℕ
@@ -37,7 +38,7 @@ pub record All : Type 0 where
 abbrev pub whole : All → List ℕ
 whole a =
     a.plan ++ (a.desk ++ (a.layers.detectors ++ (a.layers.calls ++ (a.layers.phases ++ (a.layers.rings ++
-    (a.layers.pattern ++ (a.layers.preempts ++ a.monitor)))))))
+    (a.layers.pattern ++ (a.layers.preempts ++ (a.layers.overlaps ++ a.monitor))))))))
 
 -- each row has as many cells as it should
 pub record AreFull (a : All) : Type 0 where
@@ -49,6 +50,7 @@ pub record AreFull (a : All) : Type 0 where
   pub rings : length a.layers.rings ≡ RING_CELLS
   pub pattern : length a.layers.pattern ≡ PATTERN_CELLS
   pub preempts : length a.layers.preempts ≡ PREEMPT_CELLS
+  pub overlaps : length a.layers.overlaps ≡ OVERLAP_CELLS
   pub monitor : length a.monitor ≡ MONITOR_CELLS
 
 -- the state in them at tick number `now`

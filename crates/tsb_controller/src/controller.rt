@@ -1,27 +1,30 @@
 //! The layers that have a part in a tick, and the tick that joins them.
-ghost use Rattle.std.specs.Prelude.{◌≡◌, ℕ, ◌-◌, ◌≤◌};
+ghost use Rattle.std.specs.Prelude.{◌≡◌, ℕ, ◌-◌, ◌≤◌, Bool};
 ghost use Rattle.tsb_objects.specs.Checked.{checked_plan};
 ghost use Rattle.tsb_calls.specs.Cells as calls;
 ghost use Rattle.tsb_phase.specs.Cells as phases;
 ghost use Rattle.tsb_ring.specs.Cells as rings;
+ghost use Rattle.tsb_overlap.specs.Cells as overlaps;
 ghost use Rattle.tsb_step.specs.Step.{last_tick};
 ghost use Rattle.tsb_step.specs.tsb_types.Sets.{has};
-ghost use Rattle.tsb_controller.specs.Found.{IsSensed, IsMoved, IsGivenUp, IsGivenUpFor, IsGivenUpOutside, LeavesAllButRings, TellsLasting};
+ghost use Rattle.tsb_controller.specs.Found.{IsSensed, IsRunOn, IsHeldBack, IsMoved, IsGivenUp, IsGivenUpFor, IsGivenUpOutside, IsFollowing, IsSettled, LeavesAllButRings, LeavesAllButOverlaps, TellsLasting};
 ghost use Rattle.tsb_controller.specs.Rows.{AreBy};
 ghost use Rattle.tsb_controller.specs.Promises.{IsTicked};
 
 use crate::carry::carry_out;
+use crate::surroundings::surroundings;
 use crate::values::{Movement, Sensed};
 use tsb_calls::Calls;
 use tsb_coord::Coord;
 use tsb_detect::{Detectors, Greens};
 use tsb_heads::some_overlap_lasts;
-use tsb_objects::{Called, Checked, PhaseSet, Ring, Row};
+use tsb_objects::{Called, Checked, PhaseSet, Ring, Row, Timing};
+use tsb_overlap::TimedOverlaps;
 use tsb_phase::Phases;
 use tsb_preempt::{Preempts, preempt_of};
 use tsb_ring::{RingOrder, Rings};
 
-/// The six layers that have a part in a tick. Their cells change between `open` and `close_onto`.
+/// The seven layers that have a part in a tick. Their cells change between `open` and `close_onto`.
 #[derive(Clone, Copy)]
 pub struct Controller {
     pub(crate) detectors: Detectors,
@@ -30,6 +33,18 @@ pub struct Controller {
     pub(crate) rings: Rings,
     pub(crate) coord: Coord,
     pub(crate) preempts: Preempts,
+    pub(crate) overlaps: TimedOverlaps,
+}
+
+/// The timing of phases, some held in clearance by overlaps that trail: these are not over.
+#[inline(always)]
+fn holding(timing: &Timing, held: PhaseSet) -> Timing
+    ensures { IsHeldBack held timing.now result }
+{
+    Timing {
+        over: timing.over.difference(held),
+        ..*timing
+    }
 }
 
 impl Controller {
@@ -49,8 +64,10 @@ impl Controller {
     {
         let sensed = self.sense(now, row, plan);
         let called = self.calls.tick(&sensed.observed(row), plan);
-        let movement = self.proceed(now, &sensed, &called, plan);
+        let held = self.run_on(now, &sensed, plan);
+        let movement = self.proceed(now, &sensed, &called, held, plan);
         self.give_up(&sensed, plan);
+        self.settle(now, &sensed, plan);
         self.calls.settle(&sensed.decided(&called, &movement));
     }
 
@@ -81,25 +98,87 @@ impl Controller {
         }
     }
 
+    /// Arrows and overlaps that trail run on as the tick begins. It gives the phases that those which trail hold in
+    /// clearance. Most plans have none.
+    #[inline(always)]
+    fn run_on(&mut self, now: u32, sensed: &Sensed, plan: &Checked) -> PhaseSet
+        requires opened { IsOpen self.old }
+        requires begun { 1 ≤ now }
+        requires in_time { now ≤ last_tick }
+        requires overlaps_by { overlaps.IsBy (now - 1) (rows_of self.old).overlaps }
+        ensures run_on { IsRunOn now sensed.now (checked_plan plan.now) (rows_of self.old) (rows_of self.new) result }
+        ensures kept { kept_of self.new ≡ kept_of self.old }
+        ensures opened { IsOpen self.new }
+    {
+        if plan.timed_overlaps().is_empty() {
+            return PhaseSet::empty();
+        }
+        self.overlaps.run_on(now, sensed.service.is_some(), plan)
+    }
+
     /// What the tick does with what it has found: the times of phases run, the rings decide, and their moves are
-    /// carried out on phases and rings.
-    fn proceed(&mut self, now: u32, sensed: &Sensed, called: &Called, plan: &Checked) -> Movement
+    /// carried out on phases and rings. Phases that overlaps hold are not over.
+    fn proceed(
+        &mut self,
+        now: u32,
+        sensed: &Sensed,
+        called: &Called,
+        held: PhaseSet,
+        plan: &Checked,
+    ) -> Movement
         requires opened { IsOpen self.old }
         requires begun { 1 ≤ now }
         requires in_time { now ≤ last_tick }
         requires calls_by { calls.IsBy (rows_of self.old).calls }
         requires phases_by { phases.IsBy (now - 1) (rows_of self.old).phases }
         requires rings_by { rings.IsBy (rows_of self.old).rings }
-        ensures moved { IsMoved now sensed.now called.now (checked_plan plan.now) (rows_of self.old) (rows_of self.new) result }
+        ensures moved { IsMoved now sensed.now called.now held (checked_plan plan.now) (rows_of self.old) (rows_of self.new) result }
         ensures kept { kept_of self.new ≡ kept_of self.old }
         ensures opened { IsOpen self.new }
     {
         let conditions = sensed.conditions(called, self.calls.vehicles());
-        let timing = self.phases.tick(now, &conditions, plan);
+        let timing = holding(&self.phases.tick(now, &conditions, plan), held);
         let moves = self.rings.decide(&sensed.for_rings(called, &timing), plan);
         carry_out(&mut self.phases, &moves, now, &timing, &conditions, plan);
         self.rings.act(&moves, RingOrder::Ring1First);
         Movement { timing, moves }
+    }
+
+    /// Arrows and overlaps that trail follow the phases and the rings, as they are now. Most plans have none.
+    #[inline(always)]
+    fn settle(&mut self, now: u32, sensed: &Sensed, plan: &Checked)
+        requires opened { IsOpen self.old }
+        requires in_time { now ≤ last_tick }
+        requires rings_by { rings.IsBy (rows_of self.old).rings }
+        requires overlaps_by { overlaps.IsBy now (rows_of self.old).overlaps }
+        ensures settled { IsSettled now sensed.now (checked_plan plan.now) (rows_of self.old) (rows_of self.new) }
+        ensures overlaps_by { overlaps.IsBy now (rows_of self.new).overlaps }
+        ensures rest { LeavesAllButOverlaps (rows_of self.old) (rows_of self.new) }
+        ensures kept { kept_of self.new ≡ kept_of self.old }
+        ensures opened { IsOpen self.new }
+    {
+        if plan.timed_overlaps().is_empty() {
+            return;
+        }
+        self.settle_some(now, sensed, plan);
+    }
+
+    /// The same, where the plan has some.
+    #[inline(never)]
+    fn settle_some(&mut self, now: u32, sensed: &Sensed, plan: &Checked)
+        requires opened { IsOpen self.old }
+        requires in_time { now ≤ last_tick }
+        requires rings_by { rings.IsBy (rows_of self.old).rings }
+        requires overlaps_by { overlaps.IsBy now (rows_of self.old).overlaps }
+        ensures following { IsFollowing now sensed.now (checked_plan plan.now) (rows_of self.old) (rows_of self.new) }
+        ensures overlaps_by { overlaps.IsBy now (rows_of self.new).overlaps }
+        ensures kept { kept_of self.new ≡ kept_of self.old }
+        ensures opened { IsOpen self.new }
+    {
+        let was_green = sensed.intervals.green;
+        let is_preempted = sensed.service.is_some();
+        let seen = surroundings(&self.phases, &self.rings, was_green, is_preempted);
+        self.overlaps.settle(now, &seen, plan);
     }
 
     /// The rings give up what they are committed to outside the target, where the preempt in service chooses anew, and

@@ -5,6 +5,7 @@ ghost use Rattle.tsb_calls.specs.Cells as calls;
 ghost use Rattle.tsb_coord.specs.Cells as coord;
 ghost use Rattle.tsb_coord.specs.Cells.{pattern_in};
 ghost use Rattle.tsb_ring.specs.Cells as rings;
+ghost use Rattle.tsb_overlap.specs.Cells as overlaps;
 ghost use Rattle.tsb_step.specs.tsb_plan.Running.{is_coordinated_now, running};
 ghost use Rattle.tsb_controller.specs.StatusPromises.{TellsGreenFound, TellsInService, TellsNext, TellsPhaseFound, TellsRing, TellsRingFound, TellsRings, TellsServed, TellsUnwanted};
 
@@ -72,15 +73,18 @@ impl Controller {
     /// A phase as its status has it, with what its green depends on, as tick `clock` left it; of a controller that has
     /// tripped that is the tick of the trip.
     fn found(&self, p: Phase, clock: u32, plan: &Checked) -> PhaseFound
-        requires fits { clock + 1 < 2 ^ 32 }
+        requires fits { clock + 2 < 2 ^ 32 }
+        requires overlaps_by { overlaps.IsBy clock (rows_of self.now).overlaps }
         requires calls_by { calls.IsBy (rows_of self.now).calls }
         requires pattern_by { coord.IsBy (rows_of self.now).pattern }
         ensures { TellsPhaseFound clock (checked_plan plan.now) (rows_of self.now) p result }
     {
+        let is_preempted = self.preempts.stage().is_some();
         PhaseFound {
             phase: p,
             times: self.phases.told(p, clock),
             found: self.green_found(p, plan),
+            holder: self.overlaps.holder(p, clock, is_preempted, plan),
         }
     }
 
@@ -97,7 +101,8 @@ impl Controller {
 
     /// The phase in service of a ring.
     fn served(&self, r: Ring, clock: u32, plan: &Checked) -> Option<PhaseFound>
-        requires fits { clock + 1 < 2 ^ 32 }
+        requires fits { clock + 2 < 2 ^ 32 }
+        requires overlaps_by { overlaps.IsBy clock (rows_of self.now).overlaps }
         requires calls_by { calls.IsBy (rows_of self.now).calls }
         requires pattern_by { coord.IsBy (rows_of self.now).pattern }
         ensures { TellsServed clock (checked_plan plan.now) (rows_of self.now) r result }
@@ -122,7 +127,8 @@ impl Controller {
 
     /// A ring.
     pub(crate) fn ring_told(&self, r: Ring, clock: u32, plan: &Checked) -> RingTold
-        requires fits { clock + 1 < 2 ^ 32 }
+        requires fits { clock + 2 < 2 ^ 32 }
+        requires overlaps_by { overlaps.IsBy clock (rows_of self.now).overlaps }
         requires calls_by { calls.IsBy (rows_of self.now).calls }
         requires rings_by { rings.IsBy (rows_of self.now).rings }
         requires pattern_by { coord.IsBy (rows_of self.now).pattern }
@@ -136,7 +142,8 @@ impl Controller {
 
     /// Both rings.
     pub(crate) fn rings_told(&self, clock: u32, plan: &Checked) -> RingsTold
-        requires fits { clock + 1 < 2 ^ 32 }
+        requires fits { clock + 2 < 2 ^ 32 }
+        requires overlaps_by { overlaps.IsBy clock (rows_of self.now).overlaps }
         requires calls_by { calls.IsBy (rows_of self.now).calls }
         requires rings_by { rings.IsBy (rows_of self.now).rings }
         requires pattern_by { coord.IsBy (rows_of self.now).pattern }

@@ -1,5 +1,5 @@
-//! The controller at power-up, and the inputs between ticks that change its layers: a pattern, a clock, a switch, a reset,
-//! and a commit of the structure.
+//! The controller at power-up, and the inputs between ticks that change its layers: a pattern, a clock, a switch,
+//! omitted arrows, a reset, and a commit of the structure.
 ghost use Rattle.std.specs.Prelude.{◌≡◌, ◌+◌, ◌<◌, ◌≤◌, ◌^◌, None};
 ghost use Rattle.tsb_objects.specs.Checked.{checked_plan};
 ghost use Rattle.tsb_coord.specs.Coordinated.{refusal};
@@ -8,13 +8,14 @@ ghost use Rattle.tsb_step.specs.Step.{last_tick};
 ghost use Rattle.tsb_ring.specs.Cells as rings;
 ghost use Rattle.tsb_coord.specs.Cells as coord;
 ghost use Rattle.tsb_controller.specs.Rows.{AreBy};
-ghost use Rattle.tsb_controller.specs.Promises.{IsAtPowerUp, IsSelected, IsClocked, IsSwitched, IsRestarted, IsForgotten, KeepsBy};
+ghost use Rattle.tsb_controller.specs.Promises.{IsAtPowerUp, IsSelected, IsClocked, IsSwitched, IsOmitted, IsRestarted, IsForgotten, KeepsBy};
 
 use crate::controller::Controller;
 use tsb_calls::Calls;
 use tsb_coord::Coord;
 use tsb_detect::Detectors;
-use tsb_objects::Checked;
+use tsb_objects::{Checked, NumberSet};
+use tsb_overlap::TimedOverlaps;
 use tsb_phase::Phases;
 use tsb_preempt::Preempts;
 use tsb_ring::Rings;
@@ -36,6 +37,7 @@ impl Controller {
             rings: Rings::new(),
             coord: Coord::new(),
             preempts: Preempts::new(),
+            overlaps: TimedOverlaps::new(),
         }
     }
 
@@ -80,6 +82,17 @@ impl Controller {
         let _done = self.preempts.switch(n, on, plan);
     }
 
+    /// Omits the arrows of a set, and lets others flash.
+    pub fn omit(&mut self, set: NumberSet)
+        requires opened { IsOpen self.old }
+        ensures state { IsOmitted set (rows_of self.old) (rows_of self.new) }
+        ensures by { KeepsBy (rows_of self.old) (rows_of self.new) }
+        ensures kept { kept_of self.new ≡ kept_of self.old }
+        ensures opened { IsOpen self.new }
+    {
+        self.overlaps.omit(set);
+    }
+
     /// All layers start anew at tick `now`, as at power-up, except the switches of preempts and the clock.
     pub fn reset(&mut self, now: u32)
         requires opened { IsOpen self.old }
@@ -96,6 +109,7 @@ impl Controller {
         self.rings.reset(now);
         self.coord.reset(now);
         self.preempts.reset(now);
+        self.overlaps.reset(now);
     }
 
     /// The rings forget the phases that they started last, as after a commit of the structure.

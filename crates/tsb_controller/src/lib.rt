@@ -1,7 +1,7 @@
-//! The controller: six layers joined. A tick hands each what the others have found, in the order in which it is found.
+//! The controller: seven layers joined. A tick hands each what the others have found, in the order in which it is found.
 //!
-//! [`Controller`] has the layers that have a part in a tick: detectors, calls, phases, rings, coordination and
-//! preempts. After each call, the state that is read in their cells (`specs/Rows.antt`) is the one that the one step of
+//! [`Controller`] has the layers that have a part in a tick: detectors, calls, phases, rings, coordination,
+//! preempts and overlaps. After each call, the state that is read in their cells (`specs/Rows.antt`) is the one that the one step of
 //! the definitions (`tsb_step`) gives from the state before. What has changed between `open` and `close_onto` is listed
 //! cell by cell, and `undo` puts it back.
 #![tactic(auto)]
@@ -21,6 +21,7 @@ mod record;
 mod seen;
 mod selected;
 pub mod status;
+mod surroundings;
 mod times;
 mod values;
 mod waits;

@@ -1,16 +1,18 @@
 //! Ticks that may be passed over, as they change nothing while the inputs stay.
-ghost use Rattle.std.specs.Prelude.{◌≡◌, ℕ, ◌+◌, ◌<◌, ◌≤◌, false, Some, None};
+ghost use Rattle.std.specs.Prelude.{◌≡◌, ℕ, ◌+◌, ◌-◌, ◌<◌, ◌≤◌, false, Some, None};
 ghost use Rattle.tsb_objects.specs.Checked.{checked_plan};
 ghost use Rattle.tsb_step.specs.tsb_plan.PlanOf.{plan_of};
 ghost use Rattle.tsb_step.specs.tsb_types.Flow.{target_of};
 ghost use Rattle.tsb_step.specs.tsb_types.Sets.{has};
 ghost use Rattle.tsb_coord.specs.Cells as coord;
+ghost use Rattle.tsb_overlap.specs.Cells as overlaps;
 ghost use Rattle.tsb_preempt.specs.Preempts.{is_outside};
 ghost use Rattle.tsb_step.specs.Step.{last_tick};
 ghost use Rattle.tsb_controller.specs.Rows.{AreBy};
-ghost use Rattle.tsb_controller.specs.Passing.{wanted_in, IsSettled, NoneRose, IsSeen, ArePhasesStill, AreOthersStill, AreQuietUntil, EarlyRecordsLeavePhases, WatchedTicksAreTicked, WatchedTicksPass};
+ghost use Rattle.tsb_controller.specs.Passing.{wanted_in, IsSettled, NoneRose, IsSeen, ArePhasesStill, AreOverlapsQuiet, AreOverlapsStill, AreOthersStill, AreQuietUntil, EarlyRecordsLeavePhases, WatchedTicksAreTicked, WatchedTicksPass};
 
 use crate::controller::Controller;
+use crate::surroundings::surroundings;
 use crate::values::Sensed;
 use tsb_detect::Greens;
 use tsb_objects::limits::TICKS;
@@ -101,11 +103,46 @@ impl Controller {
         self.phases.due(now, &conditions, plan)
     }
 
-    /// The tick up to which detectors and preempts stay as tick `now` left them, and coordination asks the same, at
-    /// most the one after the last tick that there is.
-    fn others_due(&self, now: u32, row: &Row, plan: &Checked) -> u32
+    /// The tick up to which overlaps stay as tick `now` left them, while phases, rings and preempts do. Most plans have
+    /// none that could change.
+    #[inline(always)]
+    fn overlaps_due(&self, now: u32, plan: &Checked) -> u32
+        requires begun { 1 ≤ now }
         requires in_time { now ≤ last_tick }
         requires by { AreBy now (rows_of self.now) }
+        requires were { overlaps.IsBy (now - 1) (rows_of self.now).overlaps }
+        ensures later { now < result }
+        ensures still { AreOverlapsStill now (checked_plan plan.now) (rows_of self.now) result }
+    {
+        if plan.timed_overlaps().is_empty() {
+            return u32::MAX;
+        }
+        self.some_overlaps_due(now, plan)
+    }
+
+    /// The same, where the plan has some.
+    #[inline(never)]
+    fn some_overlaps_due(&self, now: u32, plan: &Checked) -> u32
+        requires begun { 1 ≤ now }
+        requires in_time { now ≤ last_tick }
+        requires by { AreBy now (rows_of self.now) }
+        requires were { overlaps.IsBy (now - 1) (rows_of self.now).overlaps }
+        ensures later { now < result }
+        ensures still { AreOverlapsQuiet now (checked_plan plan.now) (rows_of self.now) result }
+    {
+        let green = self.phases.intervals().green;
+        let is_preempted = self.preempts.stage().is_some();
+        let seen = surroundings(&self.phases, &self.rings, green, is_preempted);
+        self.overlaps.due(now, &seen, plan)
+    }
+
+    /// The tick up to which detectors, preempts and overlaps stay as tick `now` left them, and coordination asks the same:
+    /// at most the one after the last tick that there is.
+    fn others_due(&self, now: u32, row: &Row, plan: &Checked) -> u32
+        requires begun { 1 ≤ now }
+        requires in_time { now ≤ last_tick }
+        requires by { AreBy now (rows_of self.now) }
+        requires were { overlaps.IsBy (now - 1) (rows_of self.now).overlaps }
         ensures later { now < result }
         ensures within { result ≤ last_tick + 1 }
         ensures still { AreOthersStill now row.now (checked_plan plan.now) (rows_of self.now) result }
@@ -115,7 +152,9 @@ impl Controller {
         let detectors = self.detectors.due(now, row, plan);
         let preempts = self.preempts.due(now, row, &intervals, plan);
         let coordination = self.coord.due(now, plan);
-        detectors.min(preempts).min(coordination.min(TICKS + 1))
+        let overlaps = self.overlaps_due(now, plan);
+        let layers = detectors.min(preempts).min(overlaps);
+        layers.min(coordination.min(TICKS + 1))
     }
 
     /// The first tick after `now` that may change something, where tick `now`, with the inputs of `row` on, changed no

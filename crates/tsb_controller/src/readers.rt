@@ -16,13 +16,13 @@ ghost use Rattle.tsb_ring.specs.Cells as rings;
 ghost use Rattle.tsb_coord.specs.Cells as coord;
 ghost use Rattle.tsb_step.specs.Step.{last_tick};
 ghost use Rattle.tsb_step.specs.tsb_types.declared.clock_time.TheConstants.{DAY, LAST_DAY};
-ghost use Rattle.tsb_controller.specs.Promises.{TellsServing, TellsPreempted, TellsStage, TellsLocal};
+ghost use Rattle.tsb_controller.specs.Promises.{TellsServing, TellsPreempted, TellsStage, TellsLocal, TellsOmitted};
 
 use crate::controller::Controller;
 use tsb_calls::Calls;
 use tsb_coord::Coord;
 use tsb_detect::Detectors;
-use tsb_objects::{Checked, Intervals, Phase, Preempt, Refusal, Ring, Side, Stage};
+use tsb_objects::{Checked, Intervals, NumberSet, Phase, Preempt, Refusal, Ring, Side, Stage};
 use tsb_phase::Phases;
 use tsb_preempt::Preempts;
 
@@ -136,6 +136,13 @@ impl Controller {
         ensures closed { IsClosed self.now → phases.is_open result.now ≡ false }
     {
         &self.phases
+    }
+
+    /// The arrows that are omitted.
+    pub fn omitted_arrows(&self) -> NumberSet
+        ensures { TellsOmitted (rows_of self.now) result }
+    {
+        self.overlaps.omitted()
     }
 
     /// The preempts.

@@ -9,7 +9,7 @@ use crate::undo_entry;
 use arrayvec::ArrayVec;
 use tsb_cells::Reversible;
 use tsb_history::Record;
-use tsb_step::first_cell::{CALLS, COORD, DETECTORS, PHASES, PREEMPTS, RINGS};
+use tsb_step::first_cell::{CALLS, COORD, DETECTORS, OVERLAPS, PHASES, PREEMPTS, RINGS};
 
 impl Controller {
     ghost use Rattle.tsb_controller.specs.Layer.{rows_of, kept_of, IsOpen, IsClosed};
@@ -27,6 +27,7 @@ impl Controller {
         self.rings.open();
         self.coord.open();
         self.preempts.open();
+        self.overlaps.open();
     }
 
     /// Ends a change, and adds each cell that differs to `out`, by its number among all cells of the bench, with what
@@ -45,6 +46,7 @@ impl Controller {
         self.rings.close_onto(out, RINGS);
         self.coord.close_onto(out, COORD);
         self.preempts.close_onto(out, PREEMPTS);
+        self.overlaps.close_onto(out, OVERLAPS);
     }
 
     /// Puts back what an entry of a record says, where it is of a cell of the layers, and says whether it is.
@@ -67,8 +69,10 @@ impl Controller {
             undo_entry(&mut self.rings, cell, old, RINGS)
         } else if DETECTORS <= cell && cell < PREEMPTS {
             undo_entry(&mut self.coord, cell, old, COORD)
-        } else {
+        } else if DETECTORS <= cell && cell < OVERLAPS {
             undo_entry(&mut self.preempts, cell, old, PREEMPTS)
+        } else {
+            undo_entry(&mut self.overlaps, cell, old, OVERLAPS)
         }
     }
 }

@@ -7,18 +7,19 @@ ghost use Rattle.tsb_step.specs.tsb_types.declared.interval.PedestrianInterval.T
 ghost use Rattle.tsb_step.specs.tsb_types.Flow.{interval_of, pedestrian_of};
 ghost use Rattle.tsb_step.specs.tsb_types.Lists.{run_from};
 ghost use Rattle.tsb_step.specs.tsb_types.Sets.{has, has_number};
-ghost use Rattle.tsb_step.specs.tsb_plan.Parts.{is_included};
+ghost use Rattle.tsb_step.specs.tsb_plan.Parts.{is_arrow, is_modifier};
 ghost use Rattle.tsb_step.specs.tsb_plan.Plan.{Plan};
 ghost use Rattle.tsb_step.specs.tsb_plan.Running.{is_on_maximum_recall, is_on_minimum_recall, running};
 ghost use Rattle.tsb_step.specs.Step.{last_tick};
-ghost use Rattle.tsb_step.specs.Events.{is_track, serves, stage_is_green};
+ghost use Rattle.tsb_step.specs.Events.{is_by, is_track, serves, stage_is_green};
 ghost use Rattle.tsb_preempt.specs.Preempts.{is_dwell, is_exit};
 ghost use Rattle.tsb_preempt.specs.Service.{all_green};
 ghost use Rattle.tsb_objects.specs.Checked.{checked_plan};
 ghost use Rattle.tsb_ring.specs.Cells as rings;
 ghost use Rattle.tsb_coord.specs.Cells as coord;
+ghost use Rattle.tsb_overlap.specs.Cells as overlaps;
 ghost use Rattle.tsb_coord.specs.Cells.{pattern_in};
-ghost use Rattle.tsb_controller.specs.Seen.{IsStanding, TellsSeen, is_off_beside};
+ghost use Rattle.tsb_controller.specs.Seen.{IsStanding, TellsSeen, TellsTrails, is_off_beside};
 
 use crate::controller::Controller;
 use tsb_calls::{Observed, Standing};
@@ -138,15 +139,27 @@ fn stage_is_green(stage: &Option<(Preempt, Stage)>, intervals: &Intervals, plan:
     }
 }
 
-/// Whether one of these phases is included in an overlap.
-fn includes_one(overlap: Overlap, phases: PhaseSet, plan: &Checked) -> bool
-    ensures { result ≡ list_any (λ p. is_included (checked_plan plan.now) overlap p && has phases p) (run_from 1 16) }
+/// The protected turn of an overlap that is an arrow, as a set; of any other none.
+fn turn_of(overlap: Overlap, plan: &Checked) -> PhaseSet
+    ensures { (p : ℕ) → has result p ≡ (is_arrow (checked_plan plan.now) overlap && is_modifier (checked_plan plan.now) overlap p) }
 {
-    let included = plan.plan().included_phases(overlap);
-    included.intersection(phases).first().is_some()
+    if plan.plan().is_arrow(overlap) {
+        plan.plan().modifier_phases(overlap)
+    } else {
+        PhaseSet::empty()
+    }
 }
 
-/// The overlaps that are not lit, and include none of the phases that are in service.
+/// Whether one of these phases is included in an overlap, or is the protected turn of an arrow.
+fn includes_one(overlap: Overlap, phases: PhaseSet, plan: &Checked) -> bool
+    ensures { result ≡ list_any (λ p. is_by (checked_plan plan.now) overlap p && has phases p) (run_from 1 16) }
+{
+    let included = plan.plan().included_phases(overlap);
+    let by = included.union(turn_of(overlap, plan));
+    by.intersection(phases).first().is_some()
+}
+
+/// The overlaps that are not lit, and of whose phases, the turn of an arrow among them, none is in service.
 fn overlaps_off(lit: NumberSet, served: PhaseSet, plan: &Checked) -> NumberSet
     ensures off { (o : ℕ) → 1 ≤ o → o ≤ OVERLAPS → has_number result o ≡ is_off_beside (checked_plan plan.now) lit served o }
     ensures few { (o : ℕ) → OVERLAPS < o → has_number result o ≡ false }
@@ -162,6 +175,17 @@ fn overlaps_off(lit: NumberSet, served: PhaseSet, plan: &Checked) -> NumberSet
 
 impl Controller {
     ghost use Rattle.tsb_controller.specs.Layer.{rows_of};
+
+    /// The overlaps that are green after their phases, as a log sees them: in flash none is (profile).
+    fn trails(&self, tripped: bool) -> NumberSet
+        ensures { TellsTrails tripped (rows_of self.now) result }
+    {
+        if tripped {
+            NumberSet::empty()
+        } else {
+            self.overlaps.trailing_greens()
+        }
+    }
 
     /// The calls in force, of phases in these intervals and pedestrian parts.
     fn standing(&self, intervals: &Intervals, pedestrians: &Pedestrians, plan: &Checked) -> Standing
@@ -197,6 +221,7 @@ impl Controller {
     pub fn view(&self, tripped: bool, clock: u32, tick: u32, plan: &Checked) -> Seen
         requires in_time { tick ≤ last_tick }
         requires rings_by { rings.IsBy (rows_of self.now).rings }
+        requires overlaps_by { (now : ℕ) × overlaps.IsBy now (rows_of self.now).overlaps }
         requires pattern_by { coord.IsBy (rows_of self.now).pattern }
         ensures { TellsSeen clock tick (checked_plan plan.now) tripped (rows_of self.now) result }
     {
@@ -211,6 +236,7 @@ impl Controller {
         let served = shown.green.union(shown.yellow).union(shown.red_clear);
         let overlap_greens = display.overlap_greens();
         let overlap_yellows = display.overlap_yellows();
+        let overlap_arrows = display.overlap_arrows();
         Seen {
             greens: numbers(shown.green),
             yellows: numbers(shown.yellow.difference(shown.green)),
@@ -229,8 +255,14 @@ impl Controller {
             recalls: numbers(self.recalls(plan)),
             pedestrian_recalls: numbers(plan.on_pedestrian_recall(self.coord.running(plan))),
             overlap_greens,
+            overlap_trails: self.trails(tripped),
             overlap_yellows,
-            overlaps_off: overlaps_off(overlap_greens.union(overlap_yellows), served, plan),
+            overlap_arrows,
+            overlaps_off: overlaps_off(
+                overlap_greens.union(overlap_yellows).union(overlap_arrows),
+                served,
+                plan,
+            ),
             outputs: self.detectors.outputs(),
             alarms: self.detectors.alarms(),
             switches: self.preempts.switches(),

@@ -1,5 +1,5 @@
 //! The status of the controller, by the names of NTCIP 1202's status objects.
-ghost use Rattle.std.specs.Prelude.{◌≡◌, ◌<◌, ◌≤◌, ◌||◌, ◌+◌, ◌*◌, ◌%◌, [], ◌∷◌, ℕ, true, option_map, if◌then◌else◌, IfSome};
+ghost use Rattle.std.specs.Prelude.{◌≡◌, ◌<◌, ◌≤◌, ◌||◌, ◌+◌, ◌*◌, ◌%◌, [], ◌∷◌, ℕ, true, option_map, if◌then◌else◌, IfSome, Some, None};
 ghost use Rattle.tsb_objects.specs.Checked.{checked_plan};
 ghost use Rattle.tsb_step.specs.tsb_types.declared.clock_time.TheConstants.{DAY, LAST_DAY};
 ghost use Rattle.tsb_coord.specs.Cells as coord;
@@ -9,7 +9,7 @@ ghost use Rattle.tsb_step.specs.tsb_types.declared.event.TheConstants.{FREE};
 ghost use Rattle.tsb_step.specs.tsb_types.Lists.{is, or_number};
 ghost use Rattle.tsb_step.specs.tsb_types.Sets.{has_number};
 ghost use Rattle.tsb_step.specs.declared.status.FlashStatus.TheVariants.{Mmu, NotFlash};
-ghost use Rattle.tsb_step.specs.Status.{free_status, global_time, idle_state, state_in};
+ghost use Rattle.tsb_step.specs.Status.{free_status, global_time, has_arrows, idle_state, state_in};
 ghost use Rattle.tsb_step.specs.Step.{last_tick};
 ghost use Rattle.tsb_controller.specs.Rows.{AreBy};
 ghost use Rattle.tsb_controller.specs.StatusPromises.{TellsPattern, TellsPreempt, TellsPreempts, TellsSets, TellsStatus, force_off_by, ring_status_by, stage_by, state_by};
@@ -129,6 +129,24 @@ fn time(start: &Option<u64>, now: u32) -> Option<u32>
     match start {
         None => None,
         Some(start) => Some(CLOCK_EPOCH + ((*start + u64::from(now)) / 10) as u32),
+    }
+}
+
+/// Whether some overlap of the plan is an arrow.
+fn has_arrows(plan: &Checked) -> bool
+    ensures { result ≡ has_arrows (checked_plan plan.now) }
+{
+    plan.arrows().first().is_some()
+}
+
+/// The arrows that flash yellow, where the plan has an arrow.
+fn arrows_of(seen: &Seen, plan: &Checked) -> Option<NumberSet>
+    ensures { result ≡ (if has_arrows (checked_plan plan.now) then Some seen.now.overlap_arrows else None) }
+{
+    if has_arrows(plan) {
+        Some(seen.overlap_arrows)
+    } else {
+        None
     }
 }
 
@@ -316,6 +334,7 @@ impl Controller {
             overlap_reds: sets.overlap_reds,
             overlap_yellows: seen.overlap_yellows,
             overlap_greens: seen.overlap_greens,
+            overlap_arrows: arrows_of(&seen, plan),
             active: self.detectors.outputs(),
             alarms: seen.alarms,
             preempts: self.preempt_states(plan),

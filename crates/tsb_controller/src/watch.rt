@@ -5,14 +5,14 @@ ghost use Rattle.tsb_ring.specs.Cells as rings;
 ghost use Rattle.tsb_heads.specs.Promises.{Flashes, AreApart, NamesOverlaps};
 ghost use Rattle.tsb_step.specs.MonitorLaws.{IsCause};
 ghost use Rattle.tsb_transact.specs.Desk.{Desk};
-ghost use Rattle.tsb_step.specs.Good.{IsGood};
+ghost use Rattle.tsb_step.specs.Backed.{IsGoodInAll};
 ghost use Rattle.tsb_step.specs.Step.{last_tick};
 ghost use Rattle.tsb_controller.specs.Rows.{AreBy, state_of, untripped};
 ghost use Rattle.tsb_controller.specs.Shown.{IsShown};
 ghost use Rattle.tsb_controller.specs.Promises.{ShowsDisplay, ShowsField, IsWatchedTick, IsLit};
 
 use crate::controller::Controller;
-use tsb_heads::{Display, Field, Monitor, Trip};
+use tsb_heads::{Commitments, Display, Field, Monitor, Trip};
 use tsb_objects::{Checked, Lamp, Ring, Row};
 
 impl Controller {
@@ -29,8 +29,11 @@ impl Controller {
         Display::new(
             &self.phases.intervals(),
             &self.phases.pedestrians(),
-            self.rings.commitment(Ring::of(1)),
-            self.rings.commitment(Ring::of(2)),
+            Commitments {
+                ring_1: self.rings.commitment(Ring::of(1)),
+                ring_2: self.rings.commitment(Ring::of(2)),
+            },
+            &self.overlaps.lights(),
             tripped,
             plan,
         )
@@ -81,7 +84,7 @@ impl Controller {
         requires begun { 1 ≤ now }
         requires in_time { now ≤ last_tick }
         requires by { AreBy (now - 1) (rows_of self.old) }
-        requires good { (desk : Desk) × IsGood (state_of (now - 1) (untripped (checked_plan plan.now) desk lamp) (rows_of self.old)) }
+        requires good { (desk : Desk) × IsGoodInAll (state_of (now - 1) (untripped (checked_plan plan.now) desk lamp) (rows_of self.old)) }
         ensures state { IsWatchedTick now row.now lamp (checked_plan plan.now) (rows_of self.old) (rows_of self.new) result }
         ensures cause { IfSome result IsCause }
         ensures by { AreBy now (rows_of self.new) }

@@ -7,9 +7,10 @@ use crate::driven::{Changes, Driven, Ticked};
 use crate::fault::Fault;
 use crate::numbers::Numbers;
 use std::alloc::Global;
-use tsb_heads::{Display, Field, Monitor, Trip};
+use tsb_heads::{Commitments, Display, Field, Monitor, Trip};
 use tsb_objects::{
-    Checked, Intervals, Lamp, Overlap, PedestrianColor, Pedestrians, Phase, PhaseSet, SignalColor,
+    Checked, Intervals, Lamp, Overlap, OverlapLights, PedestrianColor, Pedestrians, Phase,
+    PhaseSet, SignalColor,
 };
 
 /// What the heads are given: intervals, pedestrian parts and both commitments.
@@ -130,8 +131,11 @@ fn display(given: &Given, plan: &Checked) -> Display
     Display::new(
         &given.intervals,
         &given.pedestrians,
-        given.ring_1,
-        given.ring_2,
+        Commitments {
+            ring_1: given.ring_1,
+            ring_2: given.ring_2,
+        },
+        &OverlapLights::none(),
         false,
         plan,
     )

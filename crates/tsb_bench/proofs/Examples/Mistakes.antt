@@ -17,17 +17,17 @@ use Rattle.tsb_bench.specs.Room.{KeepsRoom, KeepRoom}
 abbrev pub entries_size : ℕ → ℕ
 entries_size n = 6 * n
 
-asks_4434 : 2 * record_size (most_cells kinds.Tick) ≡ 4434
-asks_4434 = refl
+asks_4890 : 2 * record_size (most_cells kinds.Tick) ≡ 4890
+asks_4890 = refl
 
-would_ask_4428 : 2 * entries_size (most_cells kinds.Tick) ≡ 4428
-would_ask_4428 = refl
+would_ask_4884 : 2 * entries_size (most_cells kinds.Tick) ≡ 4884
+would_ask_4884 = refl
 
--- of these 2211 bytes are left by the first of two ticks that change each cell, fewer than the second may need
-leaves_2211 : 4428 - record_size (most_cells kinds.Tick) ≡ 2211
-leaves_2211 = refl
+-- of these 2439 bytes are left by the first of two ticks that change each cell, fewer than the second may need
+leaves_2439 : 4884 - record_size (most_cells kinds.Tick) ≡ 2439
+leaves_2439 = refl
 
-would_lack_room : nat_lt 2211 (record_size (most_cells kinds.Tick)) ≡ true
+would_lack_room : nat_lt 2439 (record_size (most_cells kinds.Tick)) ≡ true
 would_lack_room = refl
 
 -- a reset of a controller that has not tripped changes nothing, and its record takes 3 bytes

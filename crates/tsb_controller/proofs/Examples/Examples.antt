@@ -27,6 +27,11 @@ use Rattle.tsb_coord.specs.Correction.{in_step}
 use Rattle.tsb_preempt.specs.Preempts as preempts
 use Rattle.tsb_preempt.specs.Cells.{preempts_cells, preempts_in, service_in}
 use Rattle.tsb_preempt.proofs.StateLemmas.{states-by as preempts-by}
+use Rattle.tsb_overlap.specs.Overlap as overlap
+use Rattle.tsb_heads.specs.Monitoring.{has_green_arrow}
+use Rattle.tsb_overlap.specs.Cells.{interval_in, overlap_in, overlaps_cells}
+use Rattle.tsb_overlap.specs.Laws as overlaps
+use Rattle.tsb_overlap.proofs.StateLemmas.{states-by as overlaps-by}
 use Rattle.tsb_transact.specs.Cells.{desk_cells}
 use Rattle.tsb_transact.specs.Desk.{closed}
 use Rattle.tsb_transact.proofs.DeskLemmas.{sound-closed}
@@ -53,6 +58,7 @@ on_side n = record {
   rings = rings_cells (record rings.power_up { side = n });
   pattern = pattern_cells None in_step None;
   preempts = preempts_cells 49 preempts.at_power_up;
+  overlaps = overlaps_cells 49 (λ o. overlap.at_power_up) (λ o. false);
 }
 
 detectors_fit : detect.AreStatesBy 49 (λ d. detector.at_power_up)
@@ -91,6 +97,9 @@ phase_fits = record {
   no_reduction = λ e. refl;
 }
 
+overlaps_fit : overlaps.IsStateBy 49 (λ o. overlap.at_power_up) (λ o. false)
+overlaps_fit = record { each = λ o from to. record { timer = tt; phase = tt }; others = λ o out. refl; few = λ o out. refl }
+
 can_be : (n : ℕ) → 1 ≤ n → n ≤ 4 → AreBy 49 (on_side n)
 can_be n from to = record {
   detectors = detectors-by 49 (λ d. detector.at_power_up) detectors_fit;
@@ -119,6 +128,7 @@ can_be n from to = record {
     off = λ n out. record { switch = refl; delay = refl; spent = refl };
     service = tt;
   });
+  overlaps = overlaps-by 49 (λ o. overlap.at_power_up) (λ o. false) overlaps_fit;
 }
 
 -- ## All rows, with the built-in plan of two phases
@@ -184,6 +194,7 @@ occupied_can_be n from to = record {
   rings = (can_be n from to).rings;
   pattern = (can_be n from to).pattern;
   preempts = (can_be n from to).preempts;
+  overlaps = (can_be n from to).overlaps;
 }
 
 differs_early : changes (on_side 1) (occupied 1) ≡ (DETECTORS, 0) ∷ []
@@ -198,7 +209,7 @@ ends_early = refl
 
 -- what these examples open
 unfoldable read : Unit {0}
-unfolding opened number_of_bits detector_in detector_row phase_in phase_row rings_in preempts_in service_in
+unfolding opened has_green_arrow overlap_in interval_in number_of_bits detector_in detector_row phase_in phase_row rings_in preempts_in service_in
 read = tt
 
 abbrev pub before : State

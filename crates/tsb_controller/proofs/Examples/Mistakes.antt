@@ -13,11 +13,11 @@ use Rattle.tsb_heads.specs.declared.monitor.Trip.{Trip}
 use Rattle.tsb_heads.specs.declared.monitor.Trip.TheVariants.{Conflict}
 use Rattle.tsb_heads.specs.Displays.{field}
 use Rattle.tsb_heads.specs.Heads.{Heads}
-use Rattle.tsb_heads.specs.Monitoring.{conflict_of, conflict, green_to_red, judge}
+use Rattle.tsb_heads.specs.Monitoring.{conflict_of, conflict, green_to_red, has_green_arrow, judge}
 use Rattle.tsb_heads.proofs.Examples.Examples.{through}
 use Rattle.tsb_preempt.specs.Cells.{preempts_in, preempts_cells, service_in}
 use Rattle.tsb_transact.specs.Desk.{closed}
-use Rattle.tsb_step.specs.declared.first_cell.TheConstants.{DESK, DETECTORS, CALLS, PHASES, RINGS, COORD, PREEMPTS}
+use Rattle.tsb_step.specs.declared.first_cell.TheConstants.{DESK, DETECTORS, CALLS, PHASES, RINGS, COORD, PREEMPTS, OVERLAPS}
 use Rattle.tsb_step.specs.Cells.{clock}
 use Rattle.tsb_step.specs.State.{State}
 use Rattle.tsb_controller.specs.Passing.{ends_before_phases, is_before_phases}
@@ -60,6 +60,7 @@ few preempts = record {
   rings = 5 ∷ 2 ∷ [];
   pattern = 0 ∷ [];
   preempts = preempts;
+  overlaps = 0 ∷ [];
 }
 
 abbrev pub few_of_all : List ℕ → All
@@ -75,7 +76,7 @@ on = few_of_all (2 ∷ 0 ∷ [])
 abbrev pub unnumbered : Rows → Rows → List (ℕ × ℕ)
 unnumbered old new =
     diff old.detectors new.detectors ++ (diff old.calls new.calls ++ (diff old.phases new.phases ++
-    (diff old.rings new.rings ++ (diff old.pattern new.pattern ++ diff old.preempts new.preempts))))
+    (diff old.rings new.rings ++ (diff old.pattern new.pattern ++ (diff old.preempts new.preempts ++ diff old.overlaps new.overlaps)))))
 
 names_its_cell : all_changes off on ≡ (PREEMPTS, 0) ∷ []
 names_its_cell = refl
@@ -92,6 +93,7 @@ put_back_whole r es = record {
   rings = apply_diff r.rings es;
   pattern = apply_diff r.pattern es;
   preempts = apply_diff r.preempts es;
+  overlaps = apply_diff r.overlaps es;
 }
 
 goes_off : (all_put_back on ((PREEMPTS, 0) ∷ [])).layers.preempts ≡ 0 ∷ 0 ∷ []
@@ -157,7 +159,8 @@ would_have_each = refl
 abbrev pub changes_without : Rows → Rows → List (ℕ × ℕ)
 changes_without old new =
     shifted DETECTORS (diff old.detectors new.detectors) ++ (shifted CALLS (diff old.calls new.calls) ++
-    (shifted PHASES (diff old.phases new.phases) ++ (shifted RINGS (diff old.rings new.rings) ++ shifted COORD (diff old.pattern new.pattern))))
+    (shifted PHASES (diff old.phases new.phases) ++ (shifted RINGS (diff old.rings new.rings) ++ (shifted COORD (diff old.pattern new.pattern) ++
+    shifted OVERLAPS (diff old.overlaps new.overlaps)))))
 
 has_a_change : changes off.layers on.layers ≡ (PREEMPTS, 0) ∷ []
 has_a_change = refl
@@ -191,12 +194,12 @@ abbrev pub lit : Heads
 lit = field quad through (Some (lamps.Phase 3 signals.Green))
 
 finds_none : judge quad unlit unlit ≡ None
-unfolding quad run_from conflict conflict_of green_to_red
+unfolding quad run_from conflict conflict_of green_to_red has_green_arrow
 finds_none = refl
 
 would_find_none_at_9 : judge_from_10 9 quad lit lit ≡ None
 would_find_none_at_9 = refl
 
 would_find_it_at_10 : judge_from_10 10 quad lit lit ≡ Some (Conflict 2 3)
-unfolding quad run_from conflict conflict_of green_to_red
+unfolding quad run_from conflict conflict_of green_to_red has_green_arrow
 would_find_it_at_10 = refl

@@ -9,7 +9,7 @@ use Rattle.tsb_step.specs.Past.{Whole, controller, earlier}
 use Rattle.tsb_step.specs.Play.{remaining}
 use Rattle.tsb_step.specs.State.{start}
 use Rattle.tsb_step.specs.Watches.{watched}
-use Rattle.tsb_step.proofs.SafeLemmas.{display_is_safe}
+use Rattle.tsb_step.proofs.DisplayLemmas.{display_is_safe}
 use Rattle.tsb_bench.specs.Held.{whole}
 use Rattle.tsb_bench.proofs.SessionLemmas.{tells-kinds}
 use Rattle.tsb_bench.proofs.player.play.Goals as goal
@@ -41,7 +41,7 @@ pub returns-clause-records : goal.returns-clause-records
 returns-clause-records c = ap (λ (w : Whole). w.records) (all c).replayed
 
 pub returns-clause-safe : goal.returns-clause-safe
-returns-clause-safe c k = display_is_safe (earlier (whole c.answer_all.new.bench) k).state (c.now-tick.ensures.good k)
+returns-clause-safe c k = display_is_safe (earlier (whole c.answer_all.new.bench) k).state (c.now-tick.ensures.good k) (c.now-tick.ensures.backed k)
 
 pub returns-clause-back : goal.returns-clause-back
 returns-clause-back c = (all c).back

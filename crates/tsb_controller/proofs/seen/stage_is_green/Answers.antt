@@ -1,7 +1,6 @@
-use Rattle.std.proofs.Common.{◌≡◌, ◌∙◌, ap, sym}
+use Rattle.std.proofs.Common.{◌∙◌, ap, sym}
 use Rattle.tsb_step.specs.tsb_types.Flow.{interval_of}
 use Rattle.tsb_step.specs.tsb_plan.Plan.{Plan}
-use Rattle.tsb_step.specs.tsb_plan.PlanOf.{plan_of}
 use Rattle.tsb_preempt.specs.Service.{stage_phases}
 use Rattle.tsb_step.specs.Events.{stage_is_green}
 use Rattle.tsb_objects.specs.Checked.{checked_plan}

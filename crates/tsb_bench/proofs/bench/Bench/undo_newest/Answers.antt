@@ -17,7 +17,7 @@ pub undo-requires-clause-ranged : goal.undo-requires-clause-ranged
 undo-requires-clause-ranged c = (sound-held _ _ _ (newest-is _ _ _ c.newest-change.result.0 c.self.invariant.1 (newest-told _ _ _ c.newest-change.ensures.newest)).before).ranged
 
 pub undo-requires-clause-passed : goal.undo-requires-clause-passed
-undo-requires-clause-passed c = (sound-held _ _ _ (newest-is _ _ _ c.newest-change.result.0 c.self.invariant.1 (newest-told _ _ _ c.newest-change.ensures.newest)).before).good.plan.rules
+undo-requires-clause-passed c = (sound-held _ _ _ (newest-is _ _ _ c.newest-change.result.0 c.self.invariant.1 (newest-told _ _ _ c.newest-change.ensures.newest)).before).good.good.plan.rules
 
 pub undo-requires-clause-desk : goal.undo-requires-clause-desk
 undo-requires-clause-desk c =

@@ -1,4 +1,4 @@
-use Rattle.std.proofs.Common.{◌≡◌, ◌∙◌, ◌&&◌, ℕ, ◌≤◌, Bool, not, ap}
+use Rattle.std.proofs.Common.{◌≡◌, ◌∙◌, ◌&&◌, not, ap}
 use Rattle.tsb_types.specs.Sets.{has}
 use Rattle.tsb_step.specs.Events.{times_minimum}
 use Rattle.tsb_step.specs.Quiet.{waited}

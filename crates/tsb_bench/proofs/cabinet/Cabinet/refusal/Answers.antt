@@ -31,6 +31,10 @@ pub returns-in-Clock : goal.returns-in-Clock
 unfolding verdict checked_plan plan_of
 returns-in-Clock c = ap (verdict (all_in c.args.tick (rows_of c.args.self.now))) (sym c.in-Clock.is)
 
+pub returns-in-Omit : goal.returns-in-Omit
+unfolding verdict checked_plan plan_of
+returns-in-Omit c = c.omit_refusal.ensures ∙ ap (verdict (all_in c.args.tick (rows_of c.args.self.now))) (sym c.in-Omit.is)
+
 pub returns-in-Begin : goal.returns-in-Begin
 unfolding verdict checked_plan plan_of
 returns-in-Begin c = c.begin_refusal.ensures ∙ ap (verdict (all_in c.args.tick (rows_of c.args.self.now))) (sym c.in-Begin.is)

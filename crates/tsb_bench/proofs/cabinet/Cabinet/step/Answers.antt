@@ -24,6 +24,14 @@ returns-in-Clock c =
     let passing = may_none c.args.tick c.set_clock.new.self (ap (λ (p : Passing). p.last) c.set_clock.ensures.passing ∙ c.none-self.ensures) in
     rw c.in-Clock.is (record { next = refl; done = c.set_clock.ensures.done; few = c.set_clock.ensures.few; shut = c.set_clock.ensures.shut; passing = passing })
 
+pub omit-requires : goal.omit-requires
+omit-requires c = record { shut = still c.args.self.now c.none-self.result c.requires.shut; by = c.requires.by; allowed = rw c.in-Omit.is at c.requires.allowed; empty = c.requires.empty }
+
+pub returns-in-Omit : goal.returns-in-Omit
+returns-in-Omit c =
+    let passing = may_none c.args.tick c.omit.new.self (ap (λ (p : Passing). p.last) c.omit.ensures.passing ∙ c.none-self.ensures) in
+    rw c.in-Omit.is (record { next = refl; done = c.omit.ensures.done; few = c.omit.ensures.few; shut = c.omit.ensures.shut; passing = passing })
+
 pub switch-requires : goal.switch-requires
 switch-requires c = record { shut = still c.args.self.now c.none-self.result c.requires.shut; by = c.requires.by; allowed = rw c.in-Switch.is at c.requires.allowed; empty = c.requires.empty }
 
@@ -73,7 +81,7 @@ returns-in-Verify c =
     rw c.in-Verify.is (record { next = refl; done = c.verify.ensures.done; few = c.verify.ensures.few; shut = c.verify.ensures.shut; passing = passing })
 
 pub commit-requires : goal.commit-requires
-commit-requires c = record { shut = still c.args.self.now c.none-self.result c.requires.shut; by = c.requires.by; good = c.requires.good; allowed = rw c.in-Commit.is at c.requires.allowed; empty = c.requires.empty }
+commit-requires c = record { shut = still c.args.self.now c.none-self.result c.requires.shut; by = c.requires.by; good = c.requires.good.good; allowed = rw c.in-Commit.is at c.requires.allowed; empty = c.requires.empty }
 
 pub returns-in-Commit : goal.returns-in-Commit
 returns-in-Commit c =

@@ -13,4 +13,5 @@ returns-clause-by c now by = record {
   rings = c.forget.ensures.by;
   pattern = by.pattern;
   preempts = by.preempts;
+  overlaps = by.overlaps;
 }

@@ -9,7 +9,7 @@ use Rattle.tsb_controller.proofs.controller.Controller.light.Goals as goal
 pub returns-clause-state : goal.returns-clause-state
 returns-clause-state c =
     lit c.args.was.now c.args.lamp.now (checked_plan c.args.plan.now) (rows_of c.args.self.now) c.field.result c.field-2.result c.judge.result
-    (placed c.args.plan.now).count c.field.ensures c.field-2.ensures c.judge.ensures
+    (placed c.args.plan.now).count (placed c.args.plan.now).overlaps c.field.ensures c.field-2.ensures c.judge.ensures
 
 pub returns-clause-cause : goal.returns-clause-cause
 returns-clause-cause c =

@@ -11,11 +11,11 @@ use Rattle.tsb_controller.proofs.controller.Controller.proceed.Goals as goal
 
 pub carry_out-requires-clause-clearing : goal.carry_out-requires-clause-clearing
 carry_out-requires-clause-clearing c =
-    clearing c.args.now (checked_plan c.args.plan.now) c.conditions-conditions.result (for_rings c.args.sensed.now c.args.called.now c.tick-timing.result)
-    (rings.cells_of c.args.self.now.rings) (phases.cells_of c.args.self.now.phases) (phases.cells_of c.tick-timing.new.self) c.decide-moves.result
+    clearing c.args.now (checked_plan c.args.plan.now) c.conditions-conditions.result (for_rings c.args.sensed.now c.args.called.now c.holding-timing.result)
+    (rings.cells_of c.args.self.now.rings) (phases.cells_of c.args.self.now.phases) (phases.cells_of c.tick.new.self) c.tick.result c.args.held c.decide-moves.result
     (placed c.args.plan.now) c.requires.rings_by
     (subst (λ (k : RingConditions). IsDecided (checked_plan c.args.plan.now) k (rings.cells_of c.args.self.now.rings) c.decide-moves.result) c.for_rings.ensures c.decide-moves.ensures)
-    c.tick-timing.ensures.each c.tick-timing.ensures.over
+    c.tick.ensures.each c.tick.ensures.over c.holding-timing.ensures
 
 pub carry_out-requires-clause-apart : goal.carry_out-requires-clause-apart
 carry_out-requires-clause-apart c =
@@ -27,13 +27,15 @@ returns-clause-moved c = record {
   counts = c.vehicles.result.now;
   lent = c.vehicles.ensures.each;
   conditions_are = c.conditions-conditions.ensures;
-  timed = phases.cells_of c.tick-timing.new.self;
-  ticked = c.tick-timing.ensures.each;
-  ready = c.tick-timing.ensures.ready;
-  over = c.tick-timing.ensures.over;
-  reverted = c.tick-timing.ensures.red_revert_passed;
-  gapped = c.tick-timing.ensures.gapped;
-  walks = c.tick-timing.ensures.walks;
+  timed = phases.cells_of c.tick.new.self;
+  ticked = c.tick.ensures.each;
+  timing = c.tick.result;
+  ready = c.tick.ensures.ready;
+  over = c.tick.ensures.over;
+  reverted = c.tick.ensures.red_revert_passed;
+  gapped = c.tick.ensures.gapped;
+  walks = c.tick.ensures.walks;
+  held_back = c.holding-timing.ensures;
   decided = subst (λ (k : RingConditions). IsDecided (checked_plan c.args.plan.now) k (rings.cells_of c.args.self.now.rings) c.decide-moves.result)
       c.for_rings.ensures c.decide-moves.ensures;
   ones = c.carry_out.ensures.ones;

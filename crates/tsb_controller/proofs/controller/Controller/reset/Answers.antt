@@ -3,8 +3,10 @@ use Rattle.tsb_detect.specs.Layer as detect
 use Rattle.tsb_calls.specs.Layer as calls
 use Rattle.tsb_phase.specs.Layer as phases
 use Rattle.tsb_preempt.specs.Layer as preempts
+use Rattle.tsb_overlap.specs.Layer as overlaps
 use Rattle.tsb_step.specs.Cells.{clock_at}
 use Rattle.tsb_controller.proofs.InputLemmas.{detectors-start, memories-start, phases-start, preempts-reset}
+use Rattle.tsb_controller.proofs.OverlapLemmas.{omitted-start, overlaps-start}
 use Rattle.tsb_controller.proofs.controller.Controller.reset.Goals as goal
 
 pub returns-clause-state : goal.returns-clause-state
@@ -21,6 +23,8 @@ returns-clause-state c b = λ i. record {
   rings = c.reset-4.ensures.state i;
   preempts = preempts-reset c.args.now (clock_at c.args.now b.trip) (preempts.cells_of c.args.self.now.preempts) (preempts.cells_of c.reset-6.new.self)
       (c.reset-6.ensures.switches c.args.now) c.requires.by.preempts (c.reset-6.ensures.by c.args.now c.args.now c.requires.by.preempts) i;
+  overlaps = overlaps-start c.args.now (overlaps.cells_of c.reset-7.new.self) c.reset-7.ensures.fresh i;
+  omitted = omitted-start (overlaps.cells_of c.reset-7.new.self) c.reset-7.ensures.fresh i;
   lamp = None;
   trip = None;
 }
@@ -33,4 +37,5 @@ returns-clause-by c = record {
   rings = c.reset-4.ensures.by;
   pattern = c.reset-5.ensures.by;
   preempts = c.reset-6.ensures.by c.args.now c.args.now c.requires.by.preempts;
+  overlaps = c.reset-7.ensures.by c.args.now;
 }

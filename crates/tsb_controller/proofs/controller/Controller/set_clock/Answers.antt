@@ -21,4 +21,5 @@ returns-clause-by c now by = record {
   rings = by.rings;
   pattern = c.set_clock.ensures.by;
   preempts = by.preempts;
+  overlaps = by.overlaps;
 }

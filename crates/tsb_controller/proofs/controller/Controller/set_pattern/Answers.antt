@@ -25,4 +25,5 @@ returns-clause-by c now by = record {
   rings = by.rings;
   pattern = c.set_pattern-done.ensures.by;
   preempts = by.preempts;
+  overlaps = by.overlaps;
 }

@@ -6,7 +6,7 @@ use Rattle.tsb_step.specs.declared.status.FlashStatus.TheVariants.{Mmu, NotFlash
 use Rattle.tsb_step.specs.Cells.{clock_at}
 use Rattle.tsb_step.specs.Events.{view}
 use Rattle.tsb_step.specs.State.{State}
-use Rattle.tsb_step.specs.Status.{ring_with, serving, status}
+use Rattle.tsb_step.specs.Status.{has_arrows, ring_with, serving, status}
 use Rattle.tsb_step.specs.Waits.{wait}
 use Rattle.tsb_events.specs.Agree.{AgreeInAll}
 use Rattle.tsb_events.specs.Seen.{view_of}
@@ -16,7 +16,11 @@ use Rattle.tsb_controller.specs.Layer.{rows_of}
 use Rattle.tsb_controller.specs.Rows.{state_of}
 use Rattle.tsb_controller.specs.StatusPromises.{AreSets, AreToldRings, IsToldPattern, ring_status_by}
 use Rattle.tsb_controller.proofs.StatusLemmas.{each-ring, ring-status}
+use Rattle.tsb_controller.proofs.StatusSetLemmas.{agree-if_any}
 use Rattle.tsb_controller.proofs.controller.Controller.status.Goals as goal
+
+pub view-seen-requires-clause-overlaps_by : goal.view-seen-requires-clause-overlaps_by
+view-seen-requires-clause-overlaps_by c = (c.args.beside.now.clock, c.requires.by.overlaps)
 
 pub returns : goal.returns
 unfolding view status
@@ -44,6 +48,7 @@ returns c b stands =
       overlap_reds = sets.overlap_reds;
       overlap_yellows = a.overlap_yellows;
       overlap_greens = a.overlap_greens;
+      overlap_arrows = agree-if_any (has_arrows s.plan) (has_arrows plan) c.view-seen.result.overlap_arrows (view s).overlap_arrows c.arrows_of.result c.arrows_of.ensures (ap has_arrows stands.plan_is) a.overlap_arrows;
       active = λ d from to. c.outputs.ensures (clock_at told.tick b.trip) d from to;
       alarms = a.alarms;
       preempt = λ n from to. c.preempt_states.ensures n from to told.tick b stands.plan_is;

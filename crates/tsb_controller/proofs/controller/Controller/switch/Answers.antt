@@ -24,4 +24,5 @@ returns-clause-by c now by = record {
   rings = by.rings;
   pattern = by.pattern;
   preempts = c.switch-done.ensures.by now by.preempts;
+  overlaps = by.overlaps;
 }

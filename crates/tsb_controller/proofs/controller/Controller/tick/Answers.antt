@@ -10,9 +10,10 @@ use Rattle.tsb_controller.proofs.controller.Controller.tick.Goals as goal
 
 pub returns-clause-state : goal.returns-clause-state
 returns-clause-state c =
-    stepped c.args.now (checked_plan c.args.plan.now) c.args.row.now (rows_of c.args.self.now) (rows_of c.sense-sensed.new.self) (rows_of c.proceed-movement.new.self) (rows_of c.give_up.new.self)
-    (cells_of c.tick-called.new.self) (cells_of c.settle.new.self) c.sense-sensed.result c.tick-called.result c.proceed-movement.result c.decided.result
+    stepped c.args.now (checked_plan c.args.plan.now) c.args.row.now (rows_of c.args.self.now) (rows_of c.sense-sensed.new.self) (rows_of c.run_on-held.new.self) (rows_of c.proceed-movement.new.self) (rows_of c.give_up.new.self) (rows_of c.settle.new.self)
+    (cells_of c.tick-called.new.self) (cells_of c.settle-2.new.self) c.sense-sensed.result c.tick-called.result c.run_on-held.result c.proceed-movement.result c.decided.result
     c.requires.begun (placed c.args.plan.now) c.requires.by c.sense-sensed.ensures.sensed
     (subst (λ (o : Observed). IsSet o (checked_plan c.args.plan.now) (cells_of c.sense-sensed.new.self.calls) (cells_of c.tick-called.new.self)) c.observed.ensures c.tick-called.ensures.each)
     (subst (λ (o : Observed). TellsCalled o (checked_plan c.args.plan.now) (cells_of c.sense-sensed.new.self.calls) c.tick-called.result) c.observed.ensures c.tick-called.ensures.called)
-    c.proceed-movement.ensures.moved c.give_up.ensures.given c.give_up.ensures.rest c.decided.ensures c.settle.ensures.each
+    c.run_on-held.ensures.run_on c.proceed-movement.ensures.moved c.give_up.ensures.given c.give_up.ensures.rest
+    c.settle.ensures.settled c.settle.ensures.rest c.decided.ensures c.settle-2.ensures.each

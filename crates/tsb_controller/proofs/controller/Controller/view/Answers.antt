@@ -1,9 +1,10 @@
 use Rattle.std.proofs.Common.{◌∙◌, ◌&&◌, ◌||◌, ℕ, ◌≤◌, Bool, Option, true, sym, ap, ap₂, is_some}
+use Rattle.std.proofs.Math.Bool.{or_assoc}
 use Rattle.tsb_step.specs.tsb_types.declared.stage.Stage.{Stage}
 use Rattle.tsb_step.specs.tsb_types.Intervals.{in_service, is_clearance, is_green, is_red_clear, is_walk, is_yellow}
-use Rattle.tsb_step.specs.tsb_types.Sets.{has}
+use Rattle.tsb_step.specs.tsb_types.Sets.{has, has_number}
 use Rattle.tsb_objects.specs.Checked.{checked_plan}
-use Rattle.tsb_heads.specs.Colours.{is_yellow as is_yellow_head}
+use Rattle.tsb_heads.specs.Colours.{is_flashing_yellow, is_yellow as is_yellow_head}
 use Rattle.tsb_heads.specs.Monitoring.{is_green as is_green_head}
 use Rattle.tsb_heads.specs.Promises.{IsSame}
 use Rattle.tsb_heads.specs.Reading.{heads_of}
@@ -20,7 +21,7 @@ use Rattle.tsb_step.specs.State.{State}
 use Rattle.tsb_controller.specs.Layer.{rows_of}
 use Rattle.tsb_controller.specs.Rows.{state_of}
 use Rattle.tsb_controller.proofs.PlacedLemmas.{placed}
-use Rattle.tsb_controller.proofs.SeenLemmas.{clear-set, clearance-set, dark-green, dark-yellow, off-told, overlaps-told, pedestrian-calls, served-told, shown-intervals, shown-parts, stage-green-same, vehicle-calls, walk-set, yellow-set}
+use Rattle.tsb_controller.proofs.SeenLemmas.{clear-set, clearance-set, dark-arrow, dark-green, dark-yellow, off-told, overlaps-told, pedestrian-calls, served-told, shown-intervals, shown-parts, stage-green-same, trails-told, vehicle-calls, walk-set, yellow-set}
 use Rattle.tsb_controller.proofs.TickLemmas.{green-set}
 use Rattle.tsb_controller.proofs.WatchLemmas.{displayed}
 use Rattle.tsb_controller.proofs.controller.Controller.view.Goals as goal
@@ -43,6 +44,7 @@ returns c b same trips clock =
     let at_stage = c.stage-stage.ensures (clock_at now b.trip) in
     let greens = λ (o : ℕ) (from : 1 ≤ o). c.overlap_greens-overlap_greens.ensures o ∙ overlaps-told is_green_head dark-green d (display s) heads c.heads-display.ensures.few o from in
     let yellows = λ (o : ℕ) (from : 1 ≤ o). c.overlap_yellows-overlap_yellows.ensures o ∙ overlaps-told is_yellow_head dark-yellow d (display s) heads c.heads-display.ensures.few o from in
+    let arrows = λ (o : ℕ) (from : 1 ≤ o). c.overlap_arrows-overlap_arrows.ensures o ∙ overlaps-told is_flashing_yellow dark-arrow d (display s) heads c.heads-display.ensures.few o from in
     let in_serving = λ (p : ℕ) (from : 1 ≤ p) (to : p ≤ 16).
     c.union-served.ensures p ∙ ap (λ (x : Bool). x || has i.red_clear p) (c.union.ensures p) ∙ served (has i.green p) (has i.yellow p) (has i.red_clear p) ∙ ap in_service (shown p from to) in
     record {
@@ -64,10 +66,13 @@ returns c b same trips clock =
           ∙ ap (λ (o : Option ℕ). is_on_pedestrian_recall plan o p) c.running.ensures.runs
           ∙ ap (λ (x : Plan). is_on_pedestrian_recall x (running x s.pattern) p) (sym same);
       overlap_greens = λ o from to. greens o from;
+      overlap_trails = λ o from to. c.trails.ensures c.requires.overlaps_by.0 o c.requires.overlaps_by.1 from to ∙ trails-told c.args.tripped rows now b trips c.requires.overlaps_by.0 o from to;
       overlap_yellows = λ o from to. yellows o from;
+      overlap_arrows = λ o from to. arrows o from;
       overlaps_off = λ o from to.
-          off-told plan c.union-2.result c.overlaps_off.result c.union-served.result s (display s) c.overlaps_off.ensures.off c.overlaps_off.ensures.few
-          (λ n low. c.union-2.ensures n ∙ ap₂ (λ (x y : Bool). x || y) (greens n low) (yellows n low))
+          off-told plan c.union-3.result c.overlaps_off.result c.union-served.result s (display s) c.overlaps_off.ensures.off c.overlaps_off.ensures.few
+          (λ n low. c.union-3.ensures n ∙ ap (λ (x : Bool). x || has_number c.overlap_arrows-overlap_arrows.result n) (c.union-2.ensures n)
+          ∙ or_assoc (has_number c.overlap_greens-overlap_greens.result n) (has_number c.overlap_yellows-overlap_yellows.result n) (has_number c.overlap_arrows-overlap_arrows.result n) ∙ ap₂ (λ (x y : Bool). x || y) (greens n low) (ap₂ (λ (x y : Bool). x || y) (yellows n low) (arrows n low)))
           (λ n. served-told c.args.plan.now n c.union-served.result s same in_serving) o from;
       outputs = λ n from to. c.outputs.ensures (clock_at now b.trip) n from to;
       alarms = λ n from to. c.alarms.ensures (clock_at now b.trip) n from to;

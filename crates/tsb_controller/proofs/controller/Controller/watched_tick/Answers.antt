@@ -10,7 +10,7 @@ use Rattle.tsb_controller.proofs.controller.Controller.watched_tick.Goals as goa
 pub returns-in-Some-clause-state : goal.returns-in-Some-clause-state
 returns-in-Some-clause-state c =
     watched-tick c.args.now c.args.row.now c.args.lamp (checked_plan c.args.plan.now) (rows_of c.args.self.now) (rows_of c.tick.new.self) c.in-Some.before c.field.result c.judge.result
-    (placed c.args.plan.now).count (rw c.in-Some.is at c.lit_field-before.ensures.shown) c.field.ensures c.tick.ensures.state c.judge.ensures
+    (placed c.args.plan.now).count (placed c.args.plan.now).overlaps (rw c.in-Some.is at c.lit_field-before.ensures.shown) c.field.ensures c.tick.ensures.state c.judge.ensures
 
 pub returns-in-Some-clause-cause : goal.returns-in-Some-clause-cause
 returns-in-Some-clause-cause c =
