@@ -10,7 +10,7 @@ use Rattle.tsb_types.specs.declared.watch.Watch.{Watch}
 use Rattle.tsb_types.specs.declared.watch.Watch.TheVariants.{Interval, Ped, Call, Output, Alarm, Stage, Trip}
 use Rattle.tsb_command_text.specs.Lamps.{phase_of, detector_of, station_of, lamp_of}
 use Rattle.tsb_command_text.specs.declared.command.Command.{Command}
-use Rattle.tsb_command_text.specs.declared.command.Command.TheVariants.{Step, Back, Seek, Undo, Show, When, Begin, Set, Verify, Commit, Abort, Pattern, Preempt, Fault, Reset, Clock, Quit}
+use Rattle.tsb_command_text.specs.declared.command.Command.TheVariants.{Step, Back, Seek, Undo, Show, When, Begin, Set, Verify, Commit, Abort, Pattern, Preempt, Fault, Reset, Clock, Omit, Quit}
 
 -- what is watched, by one word and by two
 abbrev pub watch_of_one : List ℕ → Option Watch
@@ -58,6 +58,7 @@ command_of_two w x =
     if bytes_eq w (codes "back") then option_map Back (number_of x) else
     if bytes_eq w (codes "seek") then option_map Seek (number_of x) else
     if bytes_eq w (codes "pattern") then option_map Pattern (number_of x) else
+    if bytes_eq w (codes "omit") then option_map Omit (number_of x) else
     if bytes_eq w (codes "when") then option_map When (watch_of_one x) else
     if bytes_eq w (codes "begin") then option_map Begin (station_of x) else
     if bytes_eq w (codes "verify") then option_map Verify (station_of x) else

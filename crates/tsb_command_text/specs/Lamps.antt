@@ -1,5 +1,5 @@
 -- Small numbers, and lamps of heads, as commands write them.
-use Rattle.std.specs.Prelude.{ℕ, ◌==◌, ◌&&◌, nat_le, List, [], ◌∷◌, if◌then◌else◌, Option, Some, None, codes, bytes_eq}
+use Rattle.std.specs.Prelude.{ℕ, ◌==◌, ◌&&◌, nat_le, List, [], ◌∷◌, if◌then◌else◌, Option, Some, None, option_map, codes, bytes_eq}
 use Rattle.tsb_lines.specs.Words.{number_of}
 use Rattle.tsb_types.specs.declared.limits.TheConstants.{OVERLAPS, VEHICLE_DETECTORS}
 use Rattle.tsb_types.specs.declared.lamp.Lamp.{Lamp}
@@ -51,11 +51,16 @@ with_both f None b = None
 with_both f (Some a) None = None
 with_both f (Some a) (Some b) = Some (f a b)
 
+-- the lamp of an overlap's head and an aspect: P is the flashing yellow of an arrow
+abbrev pub overlap_lamp : Option ℕ → List ℕ → Option Lamp
+overlap_lamp o aspect =
+    if bytes_eq aspect (codes "P") then option_map lamps.Arrow o else with_both lamps.Overlap o (signal_of aspect)
+
 -- the lamp of a head and an aspect: P1 to P16 are vehicle heads of phases, O1 to O16 of overlaps, and W1 to W16 are
 -- pedestrian heads of phases
 abbrev pub lamp_of : List ℕ → List ℕ → Option Lamp
 lamp_of [] aspect = None
 lamp_of (letter ∷ digits) aspect =
     if letter == 80 then with_both lamps.Phase (from_one_to 16 (head_number digits)) (signal_of aspect) else
-    if letter == 79 then with_both lamps.Overlap (from_one_to OVERLAPS (head_number digits)) (signal_of aspect) else
+    if letter == 79 then overlap_lamp (from_one_to OVERLAPS (head_number digits)) aspect else
     if letter == 87 then with_both lamps.Pedestrian (from_one_to 16 (head_number digits)) (pedestrian_signal_of aspect) else None

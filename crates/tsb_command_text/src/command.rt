@@ -39,6 +39,8 @@ pub enum Command {
     Reset,
     /// `clock YYYY-MM-DD HH:MM:SS[.d]`: the next tick begins then.
     Clock(ClockTime),
+    /// `omit LIST`: the overlaps of this list are arrows that do not flash from now on.
+    Omit(u32),
     /// `quit`: ends the session.
     Quit,
 }

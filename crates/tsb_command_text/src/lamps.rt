@@ -35,6 +35,9 @@ pub(crate) fn lamp(head: &[u8], aspect: &[u8]) -> Option<Lamp>
     }
     if *letter == b'O' {
         let overlap = Overlap::new(number_of_head(digits)?)?;
+        if is(aspect, b"P") {
+            return Some(Lamp::Arrow(overlap));
+        }
         return Some(Lamp::Overlap(overlap, signal(aspect)?));
     }
     if *letter == b'W' {

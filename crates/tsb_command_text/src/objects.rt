@@ -107,6 +107,8 @@ fn of_15_or_16(word: &[u8]) -> Option<Object>
         SplitCoordPhase  b"splitCoordPhase"
         PreemptExitPhase b"preemptExitPhase"
         CoordMaximumMode b"coordMaximumMode"
+        OverlapTrailRed  b"overlapTrailRed"
+        ActionArrowOmit  b"actionArrowOmit"
     }
 }
 
@@ -125,6 +127,8 @@ fn of_17(word: &[u8]) -> Option<Object>
         PreemptTrackGreen b"preemptTrackGreen"
         PreemptTrackPhase b"preemptTrackPhase"
         PreemptDwellPhase b"preemptDwellPhase"
+        OverlapArrowDelay b"overlapArrowDelay"
+        OverlapTrailGreen b"overlapTrailGreen"
     }
 }
 
@@ -147,6 +151,8 @@ fn of_18_or_19(word: &[u8]) -> Option<Object>
         TimeBaseScheduleDay b"timeBaseScheduleDay"
         DayPlanActionNumber b"dayPlanActionNumber"
         TimebaseAscPattern  b"timebaseAscPattern"
+        OverlapTrailYellow  b"overlapTrailYellow"
+        ChannelControlType  b"channelControlType"
     }
 }
 
@@ -164,6 +170,7 @@ fn of_20(word: &[u8]) -> Option<Object>
         PhaseDynamicMaxLimit b"phaseDynamicMaxLimit"
         CoordCorrectionLimit b"coordCorrectionLimit"
         TimeBaseScheduleDate b"timeBaseScheduleDate"
+        ChannelControlSource b"channelControlSource"
     }
 }
 
@@ -183,6 +190,7 @@ fn of_21_or_22(word: &[u8]) -> Option<Object>
         PatternPermissiveTime  b"patternPermissiveTime"
         PhasePedestrianRecycle b"phasePedestrianRecycle"
         TimeBaseScheduleMonth  b"timeBaseScheduleMonth"
+        OverlapArrowPedestrian b"overlapArrowPedestrian"
     }
 }
 

@@ -129,6 +129,9 @@ fn of_two(name: &[u8], word: &[u8]) -> Option<Command>
     if is(name, b"pattern") {
         return Some(Command::Pattern(number(word)?));
     }
+    if is(name, b"omit") {
+        return Some(Command::Omit(number(word)?));
+    }
     if is(name, b"when") {
         return Some(Command::When(watch_by_one(word)?));
     }

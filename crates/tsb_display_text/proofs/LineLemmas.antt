@@ -5,7 +5,7 @@ use Rattle.std.specs.Str.{IsUtf8, IsAscii}
 use Rattle.std.proofs.lemmas.Str.{IsUtf8-from_ascii}
 use Rattle.tsb_types.specs.Lists.{run_from}
 use Rattle.tsb_types.specs.declared.lamp.Aspect.{Aspect}
-use Rattle.tsb_types.specs.declared.lamp.Aspect.TheVariants.{Dark, Red, Yellow, Green, FlashingRed}
+use Rattle.tsb_types.specs.declared.lamp.Aspect.TheVariants.{Dark, Red, Yellow, Green, FlashingRed, FlashingYellow}
 use Rattle.tsb_types.specs.declared.lamp.PedestrianAspect.{PedestrianAspect}
 use Rattle.tsb_types.specs.declared.lamp.PedestrianAspect.TheVariants as pedestrian_aspects
 use Rattle.tsb_heads.specs.Heads.{Heads}
@@ -51,6 +51,7 @@ small-letter Red = omega arith
 small-letter Yellow = omega arith
 small-letter Green = omega arith
 small-letter FlashingRed = omega arith
+small-letter FlashingYellow = omega arith
 
 small-pedestrian_letter : (a : PedestrianAspect) → pedestrian_letter a < 128
 small-pedestrian_letter pedestrian_aspects.Dark = omega arith

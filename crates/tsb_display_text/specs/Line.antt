@@ -4,7 +4,7 @@
 use Rattle.std.specs.Prelude.{ℕ, ◌+◌, Bool, if◌then◌else◌, List, [], ◌∷◌, ◌++◌, map, Option, Some, None, codes}
 use Rattle.tsb_lines.specs.Digits.{digit, seven_digits}
 use Rattle.tsb_types.specs.declared.lamp.Aspect.{Aspect}
-use Rattle.tsb_types.specs.declared.lamp.Aspect.TheVariants.{Dark, Red, Yellow, Green, FlashingRed}
+use Rattle.tsb_types.specs.declared.lamp.Aspect.TheVariants.{Dark, Red, Yellow, Green, FlashingRed, FlashingYellow}
 use Rattle.tsb_types.specs.declared.lamp.PedestrianAspect.{PedestrianAspect}
 use Rattle.tsb_types.specs.declared.lamp.PedestrianAspect.TheVariants as pedestrian_aspects
 use Rattle.tsb_types.specs.Lists.{run_from}
@@ -12,13 +12,14 @@ use Rattle.tsb_heads.specs.Heads.{Heads}
 
 -- ## Letters
 
--- `-` for one that is dark, R, Y, G, and F for one that flashes red
+-- `-` for one that is dark, R, Y, G, F for one that flashes red, and P for one that flashes yellow
 abbrev pub letter : Aspect → ℕ
 letter Dark = 45
 letter Red = 82
 letter Yellow = 89
 letter Green = 71
 letter FlashingRed = 70
+letter FlashingYellow = 80
 
 -- `-` for one that is dark, D, C for clearance, and W
 abbrev pub pedestrian_letter : PedestrianAspect → ℕ

@@ -94,5 +94,6 @@ fn overlap_letters(heads: &Display) -> [u8; 16]
     let red = with_letter(dark, heads.overlap_reds(), b'R');
     let yellow = with_letter(red, heads.overlap_yellows(), b'Y');
     let green = with_letter(yellow, heads.overlap_greens(), b'G');
-    with_letter(green, heads.overlaps_flashing(), b'F')
+    let arrow = with_letter(green, heads.overlap_arrows(), b'P');
+    with_letter(arrow, heads.overlaps_flashing(), b'F')
 }

@@ -90,12 +90,14 @@ impl LineMaker {
         ensures { self.new ≡ line_in is_wide now (heads_of heads.now) preempt local }
     {
         let round = now - now % 10;
-        if self.heads != *heads {
+        if self.heads == *heads {
+            if self.round != round {
+                put(&mut self.line, TICK, &seven_digits(round));
+                self.round = round;
+            }
+        } else {
             self.line = bytes_of(round, &Letters::of(heads), None, None);
             self.heads = *heads;
-            self.round = round;
-        } else if self.round != round {
-            put(&mut self.line, TICK, &seven_digits(round));
             self.round = round;
         }
         self.line[UNITS] = digit(now, 1);

@@ -3,6 +3,7 @@ use Rattle.std.proofs.Common.{◌≡◌, ◌∙◌, ℕ, ◌+◌, ◌-◌, List,
 use Rattle.std.proofs.lemmas.List.{append-nil, take-append-drop, take_more, drop-drop}
 use Rattle.std.specs.declared.option.Option.{Option}
 use Rattle.std.specs.Io.KnownBytes.{Appends, Consumes, Keeps}
+use Rattle.tsb_lines.specs.Seen.{Seen}
 
 -- ## Writers
 
@@ -40,6 +41,26 @@ gone-more a b c text g n s k =
       grown = appends-more a b c s.gone (take n (drop g text)) s.grown sent;
       whole = s.whole ∙ ap (λ (l : List ℕ). s.gone ++ l) cut ∙ sym (append_assoc s.gone (take n (drop g text)) (drop (g + n) text));
     }
+
+-- what has gone out to a writer that has not failed since, and what is left
+pub record Went (a b : Seen) (text left : List ℕ) : Type 0 where
+  pub gone : Gone a.bytes b.bytes text left
+  pub well : b.failed ≡ a.failed
+
+-- what is left, in other words
+pub went-as : (a b : Seen) (text left other : List ℕ) → left ≡ other → Went a b text left → Went a b text other
+went-as a b text left other same so = subst (λ (ts : List ℕ). Went a b text ts) same so
+
+-- a piece more
+pub went-piece : (a b c : Seen) (text piece left : List ℕ) → Went a b text (piece ++ left) → Appends b.bytes c.bytes piece → c.failed ≡ b.failed → Went a c text left
+went-piece a b c text piece left so added well = record {
+  gone = record {
+    gone = so.gone.gone ++ piece;
+    grown = appends-more a.bytes b.bytes c.bytes so.gone.gone piece so.gone.grown added;
+    whole = so.gone.whole ∙ sym (append_assoc so.gone.gone piece left);
+  };
+  well = well ∙ so.well;
+}
 
 -- ## Readers
 

@@ -31,7 +31,7 @@ use Rattle.tsb_dialog.proofs.SaidLemmas.{said-more, said-nothing}
 use Rattle.tsb_log_text.specs.Logs.{row_at}
 use Rattle.tsb_text.specs.declared.rows.Rows.TheVariants.{Held}
 use Rattle.tsb_text.specs.Rows.{rows_in}
-use Rattle.tsb_text.specs.Answers.{GoesUnless, Leads, Setup, display_line, follower, line_in, next_tick, preempt_in_service, refused_after, refused_line}
+use Rattle.tsb_text.specs.Answers.{GoesUnless, Leads, Setup, display_line, followers, line_in, next_tick, preempt_in_service, refused_after, refused_line}
 use Rattle.tsb_text.specs.Obeyed.{Done, OnCourse, Stands, Took, news_in, tells_in}
 use Rattle.tsb_text.specs.Obeys.{Besides, if_told, trail}
 use Rattle.tsb_text.proofs.CourseLemmas.{follows-state, told-alike}
@@ -107,8 +107,8 @@ one-change : (given : Setup) (besides : Besides) (row : Row) (n : ℕ) (is : Lis
     → ((left : List Input) → SomeChanges given besides row left (line_after given.is_wide given.plan (Tick row ∷ is)) (shows_same (line_after given.is_wide given.plan (Tick row ∷ is)) before) n)
     → (found : Option Refusal) → verdict (replay given.plan is) (Tick row) ≡ found → SomeChanges given besides row is before is_owed (suc n)
 one-change given besides row n is before is_owed rest None e =
-    let next : (stop : Option Refusal) × (left : List Input) × Leads given (Tick row ∷ is) (follower given is (Tick row)) stop left = some-leads given (Tick row ∷ is) (follower given is (Tick row)) in
-    let said : List ℕ = tick_text given.is_wide given.plan besides row is before (trail besides.tells given (Tick row ∷ is) (follower given is (Tick row)) next.0) in
+    let next : (stop : Option Refusal) × (left : List Input) × Leads given (Tick row ∷ is) (followers given is (Tick row)) stop left = some-leads given (Tick row ∷ is) (followers given is (Tick row)) in
+    let said : List ℕ = tick_text given.is_wide given.plan besides row is before (trail besides.tells given (Tick row ∷ is) (followers given is (Tick row)) next.1) in
     let after : SomeAfter given besides row (line_after given.is_wide given.plan (Tick row ∷ is)) (shows_same (line_after given.is_wide given.plan (Tick row ∷ is)) before) n next.0 next.1 =
     some-after given besides row (line_after given.is_wide given.plan (Tick row ∷ is)) (shows_same (line_after given.is_wide given.plan (Tick row ∷ is)) before) n rest next.0 next.1 in
     record {
@@ -151,13 +151,13 @@ held-took r given log old new is row stands held took = subst (λ (i : Input). T
 -- the next tick, with the row that is held, was taken
 pub record TookNext (given : Setup) (log : List LogRow) (course : OnCourse) (row : Row) (is : List Input) : Type 0 where
   pub took : Took (Ok tt) given log course is (Tick row)
-  pub next : course.next ≡ follower given is (Tick row)
+  pub next : course.next ≡ followers given is (Tick row)
 
 pub held-next : (given : Setup) (log : List LogRow) (old new : OnCourse) (is : List Input) (row : Row) → Stands given log old is → log ≡ rows_in (Held row) → Took (Ok tt) given log new is (next_tick given is)
-    → new.next ≡ follower given is (next_tick given is) → TookNext given log new row is
+    → new.next ≡ followers given is (next_tick given is) → TookNext given log new row is
 held-next given log old new is row stands held took next = record {
   took = held-took (Ok tt) given log old new is row stands held took;
-  next = next ∙ ap (λ (i : Input). follower given is i) (held-tick given log old is row stands held);
+  next = next ∙ ap (λ (i : Input). followers given is i) (held-tick given log old is row stands held);
 }
 
 -- ## So far
@@ -204,8 +204,8 @@ taken : (given : Setup) (log : List LogRow) (besides : Besides) (row : Row) (cou
 taken given log besides row course now before line same said stop left t mode tells alike told = record {
   right = t.took.0;
   follows = record {
-    leads = subst (λ (i : Option Input). Leads given (Tick row ∷ now) i stop left) t.next told.leads;
-    told = told.told ∙ (λ j. (news j ++ trail (mode j) given (Tick row ∷ now) (t.next j) stop) ++ owed (not (same-there j)) (line-there j));
+    leads = subst (λ (i : List Input). Leads given (Tick row ∷ now) i stop left) t.next told.leads;
+    told = told.told ∙ (λ j. (news j ++ trail (mode j) given (Tick row ∷ now) (t.next j) left) ++ owed (not (same-there j)) (line-there j));
   };
   is-line = line-there;
   is-same = same-there;

@@ -11,7 +11,7 @@ use Rattle.tsb_bench.specs.tsb_machine.declared.commands.MachineCommand.TheVaria
 use Rattle.tsb_step.specs.tsb_plan.Plan.{Plan}
 use Rattle.tsb_step.specs.declared.inputs.Input.{Input}
 use Rattle.tsb_step.specs.declared.inputs.Input.TheVariants.{Tick as TakesTick}
-use Rattle.tsb_step.specs.Following.{following}
+use Rattle.tsb_step.specs.Following.{followers as all_followers}
 use Rattle.tsb_step.specs.Play.{Cmd, IsRight, remaining_after}
 use Rattle.tsb_step.specs.Runs.{AreTaken, replay}
 use Rattle.tsb_step.proofs.RemainLemmas.{remaining_taken}
@@ -27,7 +27,7 @@ use Rattle.tsb_command_text.specs.declared.live_command.LiveReading.TheVariants.
 use Rattle.tsb_command_text.specs.LiveReadings.{live_reading}
 use Rattle.tsb_log_text.specs.Logs.{row_at}
 use Rattle.tsb_text.specs.Answers as answers
-use Rattle.tsb_text.specs.Answers.{Answers, GoesUnless, Setup, Steps, Ticked, follower, follower_of, line_in, next_tick, refused_after}
+use Rattle.tsb_text.specs.Answers.{Answers, GoesUnless, Setup, Steps, Ticked, followers, followers_of, line_in, next_tick, refused_after}
 use Rattle.tsb_text.specs.declared.faults.LineFault.{LineFault}
 use Rattle.tsb_text.specs.declared.faults.OnFault.{OnFault}
 use Rattle.tsb_text.specs.declared.task.Task.{Task}
@@ -65,7 +65,7 @@ by-ticks : (given : Setup) (b : Besides) (n : ℕ) (is : List Input) (text : Lis
 by-ticks given b zero is text refusal new t = stay given.plan is new t.2
 by-ticks given b (suc n) is text refusal new (inl t) =
     onto given.plan is new (asks.Apply (next_tick given is)) Took t.3.right
-    ((then) given.plan (next_tick given is ∷ is) t.2 new (by-leads given (next_tick given is ∷ is) (follower given is (next_tick given is)) t.1 t.2 t.3.leads)
+    ((then) given.plan (next_tick given is ∷ is) t.2 new (by-leads given (next_tick given is ∷ is) (followers given is (next_tick given is)) t.1 t.2 t.3.leads)
     (unless given.plan t.1 t.2 new (TakesTicks given b t.2 n t.0 refusal new) ((t.0 ≡ []) × (refusal ≡ t.1) × (new ≡ t.2)) (by-ticks given b n t.2 t.0 refusal new) (λ ends. stay given.plan t.2 new ends.2) t.4))
 by-ticks given b (suc n) is text refusal new (inr t) = one given.plan is new (asks.Apply (next_tick given is)) (Refused t.why) t.right t.left
 
@@ -74,7 +74,7 @@ by-task given b is (tasks.Ticks n) text refusal new o = by-ticks given b n is te
 by-task given b is tasks.Show text refusal new o = stay given.plan is new o.2
 by-task given b is tasks.Quit text refusal new o = stay given.plan is new o.2
 by-task given b is (tasks.Ask cmd) text refusal new o =
-    onto given.plan is new cmd o.answer o.right (by-leads given (remaining_after given.plan is cmd o.answer) (follower_of given is cmd o.answer) o.stop new o.left)
+    onto given.plan is new cmd o.answer o.right (by-leads given (remaining_after given.plan is cmd o.answer) (followers_of given is cmd o.answer) o.stop new o.left)
 
 by-changes : (given : Setup) (b : Besides) (row : Row) (n : ℕ) (is : List Input) (before : List ℕ) (is_owed : Bool) (text : List ℕ) (refusal : Option Refusal) (new : List Input)
     → Changes given b row is before is_owed n text refusal new → Leads given.plan is new
@@ -83,7 +83,7 @@ by-changes given b row (suc n) is before is_owed text refusal new (inl c) =
     let line : List ℕ = line_after given.is_wide given.plan (TakesTick row ∷ is) in
     let same : Bool = shows_same line before in
     onto given.plan is new (asks.Apply (TakesTick row)) Took c.0
-    ((then) given.plan (TakesTick row ∷ is) c.4 new (by-leads given (TakesTick row ∷ is) (follower given is (TakesTick row)) c.3 c.4 c.5.leads)
+    ((then) given.plan (TakesTick row ∷ is) c.4 new (by-leads given (TakesTick row ∷ is) (followers given is (TakesTick row)) c.3 c.4 c.5.leads)
     (unless given.plan c.3 c.4 new (Changes given b row c.4 line same n c.2 refusal new) (Ends b line same c.3 c.4 c.2 refusal new)
     (by-changes given b row n c.4 line same c.2 refusal new) (λ ends. stay given.plan c.4 new ends.2) c.7))
 by-changes given b row (suc n) is before is_owed text refusal new (inr c) = one given.plan is new (asks.Apply (TakesTick row)) (Refused c.why) c.right c.left
@@ -180,27 +180,28 @@ answered-as s t line text c fault tells echoes o =
 
 -- ## Another log
 
-follower-as : (given other : Setup) (is : List Input) (i : Input) → other.plan ≡ given.plan → other.acts ≡ given.acts → follower other is i ≡ follower given is i
-follower-as given other is i plan acts = (λ j. if acts j then following (replay (plan j) is) (replay (plan j) (i ∷ is)) else None)
+followers-as : (given other : Setup) (is : List Input) (i : Input) → other.plan ≡ given.plan → other.acts ≡ given.acts → followers other is i ≡ followers given is i
+followers-as given other is i plan acts = (λ j. if acts j then all_followers (replay (plan j) is) (replay (plan j) (i ∷ is)) else [])
 
-follower-of-as : (given other : Setup) (is : List Input) (cmd : Cmd) (a : Answer) → other.plan ≡ given.plan → other.acts ≡ given.acts → follower_of other is cmd a ≡ follower_of given is cmd a
-follower-of-as given other is (asks.Apply i) Took plan acts = follower-as given other is i plan acts
-follower-of-as given other is (asks.Apply i) a plan acts = refl
-follower-of-as given other is cmd a plan acts = refl
+followers-of-as : (given other : Setup) (is : List Input) (cmd : Cmd) (a : Answer) → other.plan ≡ given.plan → other.acts ≡ given.acts → followers_of other is cmd a ≡ followers_of given is cmd a
+followers-of-as given other is (asks.Apply i) Took plan acts = followers-as given other is i plan acts
+followers-of-as given other is (asks.Apply i) a plan acts = refl
+followers-of-as given other is cmd a plan acts = refl
 
-leads-as : (given other : Setup) (is : List Input) (next : Option Input) (stop : Option Refusal) (left : List Input) → other.plan ≡ given.plan → answers.Leads given is next stop left → answers.Leads other is next stop left
-leads-as given other is None stop left plan l = l
-leads-as given other is (Some i) stop left plan (inl l) = inl (subst (λ (q : Plan). IsRight q is (asks.Apply i) Took) (sym plan) l.0, l.1, l.2)
-leads-as given other is (Some i) stop left plan (inr l) =
+leads-as : (given other : Setup) (is next : List Input) (stop : Option Refusal) (left : List Input) → other.plan ≡ given.plan → answers.Leads given is next stop left → answers.Leads other is next stop left
+leads-as given other is [] stop left plan l = l
+leads-as given other is (i ∷ next) stop left plan (inl l) =
+    inl (subst (λ (q : Plan). IsRight q is (asks.Apply i) Took) (sym plan) l.0, leads-as given other (i ∷ is) next stop left plan l.1)
+leads-as given other is (i ∷ next) stop left plan (inr l) =
     inr (record { why = l.why; right = subst (λ (q : Plan). IsRight q is (asks.Apply i) (Refused l.why)) (sym plan) l.right; refused = l.refused; left = l.left })
 
 ticked-as : (given other : Setup) (is : List Input) (text rest : List ℕ) (stop : Option Refusal) (left : List Input) → other.plan ≡ given.plan → other.acts ≡ given.acts → other.is_wide ≡ given.is_wide → next_tick other is ≡ next_tick given is → Ticked given is text rest stop left
     → Ticked other is text rest stop left
 ticked-as given other is text rest stop left p acts wide e t = record {
   right = subst (λ (x : Input). IsRight other.plan is (asks.Apply x) Took) (sym e) (subst (λ (q : Plan). IsRight q is (asks.Apply (next_tick given is)) Took) (sym p) t.right);
-  leads = subst (λ (x : Input). answers.Leads other (x ∷ is) (follower other is x) stop left) (sym e)
-      (subst (λ (next : Option Input). answers.Leads other (next_tick given is ∷ is) next stop left) (sym (follower-as given other is (next_tick given is) p acts))
-      (leads-as given other (next_tick given is ∷ is) (follower given is (next_tick given is)) stop left p t.leads));
+  leads = subst (λ (x : Input). answers.Leads other (x ∷ is) (followers other is x) stop left) (sym e)
+      (subst (λ (next : List Input). answers.Leads other (next_tick given is ∷ is) next stop left) (sym (followers-as given other is (next_tick given is) p acts))
+      (leads-as given other (next_tick given is ∷ is) (followers given is (next_tick given is)) stop left p t.leads));
   line = t.line ∙ (λ j. with_feed (line_in (sym wide j) (replay (sym p j) (sym e j ∷ is))) ++ (refused_after [] stop ++ rest));
 }
 
@@ -227,9 +228,9 @@ asked-as given other is cmd text new p acts wide a = record {
   answer = a.answer;
   right = subst (λ (q : Plan). IsRight q is cmd a.answer) (sym p) a.right;
   stop = a.stop;
-  left = subst (λ (q : Plan). answers.Leads other (remaining_after q is cmd a.answer) (follower_of other is cmd a.answer) a.stop new) (sym p)
-      (subst (λ (next : Option Input). answers.Leads other (remaining_after given.plan is cmd a.answer) next a.stop new) (sym (follower-of-as given other is cmd a.answer p acts))
-      (leads-as given other (remaining_after given.plan is cmd a.answer) (follower_of given is cmd a.answer) a.stop new p a.left));
+  left = subst (λ (q : Plan). answers.Leads other (remaining_after q is cmd a.answer) (followers_of other is cmd a.answer) a.stop new) (sym p)
+      (subst (λ (next : List Input). answers.Leads other (remaining_after given.plan is cmd a.answer) next a.stop new) (sym (followers-of-as given other is cmd a.answer p acts))
+      (leads-as given other (remaining_after given.plan is cmd a.answer) (followers_of given is cmd a.answer) a.stop new p a.left));
   line = a.line ∙ (λ j. with_feed (told (sym wide j) cmd a.answer (replay (sym p j) (remaining_after (sym p j) is cmd a.answer))) ++ refused_after [] a.stop);
 }
 

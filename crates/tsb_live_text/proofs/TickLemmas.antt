@@ -22,11 +22,11 @@ rejoin said cut rest more =
 -- ## Faults
 
 -- within the events of the tick
-pub tells-cut : (e : WriteError) (given : Setup) (log : List LogRow) (course : OnCourse) (tells : Bool) (is : List Input) (next : Option Input) (news line : List ℕ) (a b : Option (List ℕ)) (p q : List ℕ)
+pub tells-cut : (e : WriteError) (given : Setup) (log : List LogRow) (course : OnCourse) (tells : Bool) (is next : List Input) (news line : List ℕ) (a b : Option (List ℕ)) (p q : List ℕ)
     → IsCutShort a b p q news → Done (Err e) given log course (TellsTick given tells is next news line) a b p q
 tells-cut e given log course tells is next news line a b p q cut =
     let after : (stop : Option Refusal) × (left : List Input) × Leads given is next stop left = some-leads given is next in
-    let rest : List ℕ = trail tells given is next after.0 ++ line in
+    let rest : List ℕ = trail tells given is next after.1 ++ line in
     record {
       text = cut.text;
       said = cut.said;
@@ -36,13 +36,13 @@ tells-cut e given log course tells is next news line a b p q cut =
         after.1,
         record {
           leads = after.2;
-          told = sym (append_assoc cut.text cut.so.0 rest) ∙ ap (λ (v : List ℕ). v ++ rest) (sym cut.so.1) ∙ sym (append_assoc news (trail tells given is next after.0) line);
+          told = sym (append_assoc cut.text cut.so.0 rest) ∙ ap (λ (v : List ℕ). v ++ rest) (sym cut.so.1) ∙ sym (append_assoc news (trail tells given is next after.1) line);
         },
       );
     }
 
 -- within those of what follows it
-pub tells-cut-after : (e : WriteError) (given : Setup) (log : List LogRow) (course : OnCourse) (tells : Bool) (is : List Input) (next : Option Input) (news line : List ℕ) (a b c : Option (List ℕ)) (p q r : List ℕ)
+pub tells-cut-after : (e : WriteError) (given : Setup) (log : List LogRow) (course : OnCourse) (tells : Bool) (is next : List Input) (news line : List ℕ) (a b c : Option (List ℕ)) (p q r : List ℕ)
     → Said a b p q news → Done (Err e) given log course (Trailing given tells is next) b c q r → Done (Err e) given log course (TellsTick given tells is next news line) a c p r
 tells-cut-after e given log course tells is next news line a b c p q r said d = record {
   text = news ++ d.text;
@@ -57,7 +57,7 @@ tells-cut-after e given log course tells is next news line a b c p q r said d = 
 
 -- ## All of it, or a fault within the line
 
-pub tells-all : (stop : Option Refusal) (given : Setup) (log : List LogRow) (course : OnCourse) (tells : Bool) (is : List Input) (next : Option Input) (news line : List ℕ) (a b c d : Option (List ℕ)) (p q r t : List ℕ)
+pub tells-all : (stop : Option Refusal) (given : Setup) (log : List LogRow) (course : OnCourse) (tells : Bool) (is next : List Input) (news line : List ℕ) (a b c d : Option (List ℕ)) (p q r t : List ℕ)
     → Said a b p q news → Done (Ok stop) given log course (Trailing given tells is next) b c q r → Said c d r t line → Done (Ok stop) given log course (TellsTick given tells is next news line) a d p t
 tells-all stop given log course tells is next news line a b c d p q r t said done more = (
   done.0,
@@ -69,7 +69,7 @@ tells-all stop given log course tells is next news line a b c d p q r t said don
   },
 )
 
-pub tells-cut-line : (e : WriteError) (stop : Option Refusal) (given : Setup) (log : List LogRow) (course : OnCourse) (tells : Bool) (is : List Input) (next : Option Input) (news line : List ℕ) (a b c d : Option (List ℕ)) (p q r t : List ℕ)
+pub tells-cut-line : (e : WriteError) (stop : Option Refusal) (given : Setup) (log : List LogRow) (course : OnCourse) (tells : Bool) (is next : List Input) (news line : List ℕ) (a b c d : Option (List ℕ)) (p q r t : List ℕ)
     → Said a b p q news → Done (Ok stop) given log course (Trailing given tells is next) b c q r → IsCutShort c d r t line → Done (Err e) given log course (TellsTick given tells is next news line) a d p t
 tells-cut-line e stop given log course tells is next news line a b c d p q r t said done cut = record {
   text = (news ++ done.2.text) ++ cut.text;

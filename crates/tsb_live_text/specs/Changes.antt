@@ -12,7 +12,7 @@ use Rattle.tsb_step.specs.Runs.{replay}
 use Rattle.tsb_types.specs.declared.refusal.Refusal.{Refusal}
 use Rattle.tsb_types.specs.declared.row.Row.{Row}
 use Rattle.tsb_dialog.specs.Said.{with_feed}
-use Rattle.tsb_text.specs.Answers.{GoesUnless, Leads, Setup, follower, line_in, refused_after, refused_line}
+use Rattle.tsb_text.specs.Answers.{GoesUnless, Leads, Setup, followers, line_in, refused_after, refused_line}
 use Rattle.tsb_text.specs.Obeys.{Besides, if_told, trail}
 
 -- the heads and the preempt of a display line, or of a wide one: it without its tick number and without its local counter
@@ -53,8 +53,8 @@ Ends besides before is_owed stop left text refusal new =
 
 -- a tick was taken, and what follows it, which leaves these inputs; or that was refused. This is said of both
 pub record Follows (given : Setup) (besides : Besides) (row : Row) (is : List Input) (before said : List ℕ) (stop : Option Refusal) (left : List Input) : Type 0 where
-  pub leads : Leads given (Tick row ∷ is) (follower given is (Tick row)) stop left
-  pub told : said ≡ tick_text given.is_wide given.plan besides row is before (trail besides.tells given (Tick row ∷ is) (follower given is (Tick row)) stop)
+  pub leads : Leads given (Tick row ∷ is) (followers given is (Tick row)) stop left
+  pub told : said ≡ tick_text given.is_wide given.plan besides row is before (trail besides.tells given (Tick row ∷ is) (followers given is (Tick row)) left)
 
 -- so many ticks with these inputs, up to one that is refused, after this display line, which is owed where it was not told.
 -- Each display line is told that shows another head or preempt than the line before, and the last.
@@ -68,6 +68,6 @@ Changes given besides row is before is_owed (suc n) text refusal new =
     ⊎ Stopped given.plan besides row is before is_owed text refusal new
 
 -- what follows a tick is taken, and this is said around it: the events of the tick, its own, and the line of the tick
-pub record TellsTick (given : Setup) (tells : Bool) (is : List Input) (next : Option Input) (news line : List ℕ) (text : List ℕ) (refusal : Option Refusal) (new : List Input) : Type 0 where
+pub record TellsTick (given : Setup) (tells : Bool) (is next : List Input) (news line : List ℕ) (text : List ℕ) (refusal : Option Refusal) (new : List Input) : Type 0 where
   pub leads : Leads given is next refusal new
-  pub told : text ≡ (news ++ trail tells given is next refusal) ++ line
+  pub told : text ≡ (news ++ trail tells given is next new) ++ line

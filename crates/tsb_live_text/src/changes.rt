@@ -11,7 +11,7 @@ ghost use Rattle.tsb_text.specs.declared.rows.Rows.TheVariants.{Held};
 ghost use Rattle.tsb_text.specs.Rows.{rows_in};
 ghost use Rattle.tsb_text.specs.Answers.{Setup, line_in, refused_line};
 ghost use Rattle.tsb_text.specs.Obeyed.{Done, Stands, besides_of, news_in, tells_in};
-ghost use Rattle.tsb_text.specs.Wanting.{IsWanting, WantsAfter, WantsPattern, tick_of};
+ghost use Rattle.tsb_text.specs.Wanting.{IsWanting, WantsAfter, WantsFollower, tick_of};
 ghost use Rattle.tsb_types.specs.declared.refusal.Refusal.TheVariants.{Memory};
 
 use std::io::Write;
@@ -39,7 +39,7 @@ pub(crate) fn changes<W: Write>(
 ) -> Result<Option<Refusal>, WriteError>
     ensures done { (given : Setup) (log : List LogRow) (row : RowValue) (inputs : List InputValue) → Stands given log course.old inputs → log ≡ rows_in (Held row)
         → Done result given log course.new (Changes given (besides_of course.old echo.now) row inputs (line_in course.old.is_wide (state_of course.old.bench)) false ticks) (W.contents writer.old.device) (W.contents writer.new.device) pending.old pending.new }
-    ensures wanting { result ≡ Ok (Some Memory) → IsWanting course.new (tick_of course.new) ⊎ WantsPattern course.new }
+    ensures wanting { result ≡ Ok (Some Memory) → IsWanting course.new (tick_of course.new) ⊎ WantsFollower course.new }
     ensures mode { course.new.mode ≡ course.old.mode }
     ensures blame { writer.old.failed ≡ false → AfterCalls result writer.new.failed }
 {

@@ -23,6 +23,7 @@ commit S                  they come into force
 abort S                   they are dropped
 pattern N                 pattern N is asked for; 0 is free operation
 preempt N on              preempt N is switched on; off switches it off
+omit LIST                 the arrows of this list of overlaps do not flash, and no others; 0 for none
 fault HEAD ASPECT         a lamp is lit, as by P4 G; fault none ends that
 reset                     the monitor is reset
 clock YYYY-MM-DD HH:MM:SS the next tick begins then

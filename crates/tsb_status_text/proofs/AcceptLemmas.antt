@@ -1,6 +1,6 @@
 -- Each member of a plan's line is accepted: its name is an object's, its indices are, and its values are in range.
 use Rattle.std.proofs.Common.{◌≡◌, ◌∙◌, ℕ, zero, suc, ◌+◌, ◌<◌, ◌≤◌, ◌==◌, nat_le, ◌&&◌, ◌||◌, ◌⊎◌, Bool, true, false, List, [], ◌∷◌, if◌then◌else◌, Some, Result, Ok, codes, decimal, bytes_eq, Ordering, Less, Equal, Greater, nat_cmp, refl, sym, true≢false, ap, subst, arith, rules, inl, inr}
-use Rattle.std.proofs.lemmas.Bool.{and_from, cases_Bool, le-leb}
+use Rattle.std.proofs.lemmas.Bool.{and_from, and_parts, cases_Bool, leb-true, le-leb}
 use Rattle.std.proofs.lemmas.Bool.Decides.{nat_tests}
 use Rattle.std.proofs.lemmas.List.Folds.{list_all_at}
 use Rattle.std.proofs.lemmas.Map.Lookups.{exact_bytes}
@@ -26,7 +26,7 @@ use Rattle.tsb_plan.specs.Versions.{has_object, has_index_in, indices_in, greate
 use Rattle.tsb_plan_text.proofs.NumberLemmas.{index_found}
 use Rattle.tsb_plan_text.specs.PlanErrors.{Error}
 use Rattle.tsb_plan_text.specs.PlanText.{index_named, whole_number, with_entry, with_table, with_object, is_notes, with_member, with_members}
-use Rattle.tsb_status_text.specs.PlanLine.{fits_version_2, is_all_zeros, version_for}
+use Rattle.tsb_status_text.specs.PlanLine.{fits_version_2, is_all_zeros, is_of_version_2, version_for}
 use Rattle.tsb_status_text.proofs.FoundLemmas.{data_table, not_version, not_notes, plan_members, put_entries, put_entry, put_object, put_objects, version_alone, whole_small}
 use Rattle.tsb_status_text.proofs.JsonLemmas.{AreSmall}
 
@@ -40,22 +40,25 @@ pub record Accepted (r : Result Plan Error) (before : Plan) : Type 0 where
 
 -- ## The version
 
--- texts of the version have the values of a plan, at indices of the plan
+-- texts of the version have indices of a plan
 pub record IsAsInPlan (v : Version) : Type 0 where
   pub within : (o : Object) → indices_in v o ≤ indices o
-  pub values : (o : Object) → greatest_in v o ≡ greatest o
   pub at : (o : Object) (i : ℕ) → translated v o i ≡ i
 
--- and they have each index at which the plan is not 0
+-- and they have each index at which the plan is not 0, up to its value
 abbrev pub HasAllOf : Version → Plan → Type 0
-HasAllOf v plan = (o : Object) (i : ℕ) → 1 ≤ i → i ≤ indices o → (plan.value o i == 0) ≡ false → has_index_in v o i ≡ true
+HasAllOf v plan = (o : Object) (i : ℕ) → 1 ≤ i → i ≤ indices o → (plan.value o i == 0) ≡ false → (has_index_in v o i ≡ true) × (plan.value o i ≤ greatest_in v o)
+
+-- each value is in its object's range
+abbrev pub AreRanged : Plan → Type 0
+AreRanged plan = (o : Object) (i : ℕ) → plan.value o i ≤ greatest o
 
 few-in-two : (o : Object) → indices_in Two o ≤ indices o
 few-in-two o = search rules
 
 as-in-plan : (b : Bool) → IsAsInPlan (if b then Two else Three)
-as-in-plan true = record { within = few-in-two; values = λ o. refl; at = λ o i. refl }
-as-in-plan false = record { within = λ o. omega arith; values = λ o. refl; at = λ o i. refl }
+as-in-plan true = record { within = few-in-two; at = λ o i. refl }
+as-in-plan false = record { within = λ o. omega arith; at = λ o i. refl }
 
 pub version-as-in-plan : (plan : Plan) → IsAsInPlan (version_for plan)
 unfolding version_for
@@ -69,17 +72,19 @@ all-fit plan o all = elim (cases_Bool (fits_version_2 plan o)) [
       (ap (fits_version_2 plan) (at-order o) ∙ fails)))
 ]
 
-has-all : (plan : Plan) (b : Bool) → list_all (fits_version_2 plan) objects ≡ b → HasAllOf (if b then Two else Three) plan
+has-all : (plan : Plan) → AreRanged plan → (b : Bool) → list_all (fits_version_2 plan) objects ≡ b → HasAllOf (if b then Two else Three) plan
 unfolding fits_version_2
-has-all plan true all = λ o i from to given.
-    let told : (plan.value o i == 0 || has_index_in Two o i) ≡ true =
-    at-run_from (λ k. plan.value o k == 0 || has_index_in Two o k) 1 (indices o) i (all-fit plan o all) from (omega (arith, to)) in
-    grind (arith, told, given)
-has-all plan false some = λ o i from to given. and_from (nat_le 1 i) _ (le-leb 1 i from) (le-leb i (indices o) to)
+has-all plan ranged true all = λ o i from to given.
+    let told : (plan.value o i == 0 || is_of_version_2 plan o i) ≡ true =
+    at-run_from (λ k. plan.value o k == 0 || is_of_version_2 plan o k) 1 (indices o) i (all-fit plan o all) from (omega (arith, to)) in
+    let both : is_of_version_2 plan o i ≡ true = ap (λ (b : Bool). b || is_of_version_2 plan o i) (sym given) ∙ told in
+    let parts = and_parts (has_index_in Two o i) (nat_le (plan.value o i) (greatest_in Two o)) both in
+    (parts.0, leb-true (plan.value o i) (greatest_in Two o) parts.1)
+has-all plan ranged false some = λ o i from to given. (and_from (nat_le 1 i) _ (le-leb 1 i from) (le-leb i (indices o) to), ranged o i)
 
-pub version-has-all : (plan : Plan) → HasAllOf (version_for plan) plan
+pub version-has-all : (plan : Plan) → AreRanged plan → HasAllOf (version_for plan) plan
 unfolding version_for
-version-has-all plan = has-all plan (list_all (fits_version_2 plan) objects) refl
+version-has-all plan ranged = has-all plan ranged (list_all (fits_version_2 plan) objects) refl
 
 -- it has each object that is not all zeros
 has-object : (v : Version) (plan : Plan) → HasAllOf v plan → (o : Object) → is_all_zeros plan o ≡ false → has_object v o ≡ true
@@ -89,7 +94,7 @@ has-object v plan has o given = elim (cases_Bool (has_object v o)) [
   | inr hasnt ↦
       absurd (true≢false (sym (all-run_from (λ i. plan.value o i == 0) 1 (indices o) (λ i from below. elim (cases_Bool (plan.value o i == 0)) [
         | inl zero_is ↦ zero_is
-        | inr other ↦ absurd (true≢false (sym (has o i from (omega (arith, below)) other) ∙ ap (λ (b : Bool). b && (nat_le 1 i && nat_le i (indices_in v o))) hasnt))
+        | inr other ↦ absurd (true≢false (sym (has o i from (omega (arith, below)) other).0 ∙ ap (λ (b : Bool). b && (nat_le 1 i && nat_le i (indices_in v o))) hasnt))
       ])) ∙ given))
 ]
 
@@ -98,14 +103,14 @@ has-object v plan has o given = elim (cases_Bool (has_object v o)) [
 abbrev IsIndex : Version → Object → List ℕ → Type 0
 IsIndex v o text = (i : ℕ) × (1 ≤ i) × (i ≤ indices_in v o) × (decimal i ≡ text)
 
-abbrev IsValue : Object → Data → Type 0
-IsValue o d = (n : ℕ) × (whole_number d ≡ Some n) × (n ≤ greatest o)
+abbrev IsValue : Version → Object → Data → Type 0
+IsValue v o d = (n : ℕ) × (whole_number d ≡ Some n) × (n ≤ greatest_in v o)
 
 abbrev IsTable : Version → Object → Members → Type 0
 IsTable v o no_members = ⊤
-IsTable v o (member text d ms) = IsIndex v o text × IsValue o d × IsTable v o ms
+IsTable v o (member text d ms) = IsIndex v o text × IsValue v o d × IsTable v o ms
 
-table_put : (v : Version) (o : Object) (k : List ℕ) (d : Data) (ms : Members) → IsIndex v o k → IsValue o d → IsTable v o ms → IsTable v o (put k d ms)
+table_put : (v : Version) (o : Object) (k : List ℕ) (d : Data) (ms : Members) → IsIndex v o k → IsValue v o d → IsTable v o ms → IsTable v o (put k d ms)
 table_put v o k d no_members index value h = (index, value, tt)
 table_put v o k d (member l e ms) index value h = go (table_put v o k d ms index value h.2) (slice_cmp nat_cmp k l)
   where
@@ -114,14 +119,14 @@ table_put v o k d (member l e ms) index value h = go (table_put v o k d ms index
     go later Equal = (h.0, value, h.2)
     go later Greater = (h.0, h.1, later)
 
-entry_accepted : (v : Version) → IsAsInPlan v → (o : Object) (text : List ℕ) (d : Data) (p : Plan) → IsIndex v o text → IsValue o d → Accepted (with_entry v o text d p) p
+entry_accepted : (v : Version) → IsAsInPlan v → (o : Object) (text : List ℕ) (d : Data) (p : Plan) → IsIndex v o text → IsValue v o d → Accepted (with_entry v o text d p) p
 unfolding with_entry
 entry_accepted v whole o text d p index value =
     let i : ℕ = index.0 in
     let n : ℕ = value.0 in
     let named : index_named (indices_in v o) text ≡ Some i =
     index_found (indices_in v o) text i index.1 index.3 index.2 (omega (arith, index.2, whole.within o, few-indices o)) in
-    record { plan = with_value p o (translated v o i) n; is = rw (named, value.1, whole.values o, le-leb n (greatest o) value.2) refl; phases = refl; sides = refl; counts = refl }
+    record { plan = with_value p o (translated v o i) n; is = rw (named, value.1, le-leb n (greatest_in v o) value.2) refl; phases = refl; sides = refl; counts = refl }
 
 table_accepted : (v : Version) → IsAsInPlan v → (o : Object) (ms : Members) (p : Plan) → IsTable v o ms → Accepted (with_table v o ms p) p
 table_accepted v whole o no_members p h = record { plan = p; is = refl; phases = refl; sides = refl; counts = refl }
@@ -174,41 +179,37 @@ members_accepted v whole (member name d ms) p h =
 
 -- ## Those of a plan
 
--- each value is in its object's range
-abbrev pub AreRanged : Plan → Type 0
-AreRanged plan = (o : Object) (i : ℕ) → plan.value o i ≤ greatest o
-
-entry_good : (v : Version) (b : Bool) (o : Object) (i n : ℕ) (found : Members) → 1 ≤ i → (b ≡ false → has_index_in v o i ≡ true) → n ≤ greatest o → n < 65536 → IsTable v o found →
+entry_good : (v : Version) (b : Bool) (o : Object) (i n : ℕ) (found : Members) → 1 ≤ i → (b ≡ false → (has_index_in v o i ≡ true) × (n ≤ greatest_in v o)) → n < 65536 → IsTable v o found →
     IsTable v o (if b then found else put (decimal i) (number (unsigned n)) found)
-entry_good v true o i n found from has ranged small h = h
-entry_good v false o i n found from has ranged small h =
-    let to : i ≤ indices_in v o = grind (arith, nat_tests, has refl) in
-    table_put v o (decimal i) (number (unsigned n)) found (i, from, to, refl) (n, whole_small n small, ranged) h
+entry_good v true o i n found from has small h = h
+entry_good v false o i n found from has small h =
+    let to : i ≤ indices_in v o = grind (arith, nat_tests, (has refl).0) in
+    table_put v o (decimal i) (number (unsigned n)) found (i, from, to, refl) (n, whole_small n small, (has refl).1) h
 
-entries_good : (v : Version) (plan : Plan) → HasAllOf v plan → AreSmall plan → AreRanged plan → (o : Object) (a n : ℕ) (found : Members) → 1 ≤ a → a + n ≤ indices o + 1 → IsTable v o found →
+entries_good : (v : Version) (plan : Plan) → HasAllOf v plan → AreSmall plan → (o : Object) (a n : ℕ) (found : Members) → 1 ≤ a → a + n ≤ indices o + 1 → IsTable v o found →
     IsTable v o (put_entries plan o (run_from a n) found)
 unfolding run_from
-entries_good v plan has small ranged o a zero found from le h = h
-entries_good v plan has small ranged o a (suc n) found from le h =
-    entries_good v plan has small ranged o (a + 1) n (put_entry a (plan.value o a) found) (omega arith) (omega (arith, le))
-    (entry_good v (plan.value o a == 0) o a (plan.value o a) found from (has o a from (omega (arith, le))) (ranged o a) (small o a) h)
+entries_good v plan has small o a zero found from le h = h
+entries_good v plan has small o a (suc n) found from le h =
+    entries_good v plan has small o (a + 1) n (put_entry a (plan.value o a) found) (omega arith) (omega (arith, le))
+    (entry_good v (plan.value o a == 0) o a (plan.value o a) found from (has o a from (omega (arith, le))) (small o a) h)
 
-table_good : (v : Version) (plan : Plan) → HasAllOf v plan → AreSmall plan → AreRanged plan → (o : Object) → IsTable v o (data_table plan o)
-table_good v plan has small ranged o = entries_good v plan has small ranged o 1 (indices o) no_members (omega arith) (omega arith) tt
+table_good : (v : Version) (plan : Plan) → HasAllOf v plan → AreSmall plan → (o : Object) → IsTable v o (data_table plan o)
+table_good v plan has small o = entries_good v plan has small o 1 (indices o) no_members (omega arith) (omega arith) tt
 
 object_good : (v : Version) (b : Bool) (k : List ℕ) (d : Data) (found : Members) → (b ≡ false → IsMember v k d) → AreMembers v found →
     AreMembers v (if b then found else put k d found)
 object_good v true k d found new h = h
 object_good v false k d found new h = members_put v k d found (new refl) h
 
-objects_good : (v : Version) (plan : Plan) → HasAllOf v plan → AreSmall plan → AreRanged plan → (os : List Object) (found : Members) → AreMembers v found →
+objects_good : (v : Version) (plan : Plan) → HasAllOf v plan → AreSmall plan → (os : List Object) (found : Members) → AreMembers v found →
     AreMembers v (put_objects plan os found)
-objects_good v plan has small ranged [] found h = h
-objects_good v plan has small ranged (o ∷ os) found h =
-    objects_good v plan has small ranged os (put_object plan o found)
+objects_good v plan has small [] found h = h
+objects_good v plan has small (o ∷ os) found h =
+    objects_good v plan has small os (put_object plan o found)
     (object_good v (is_all_zeros plan o) (name_of o) (object (data_table plan o)) found
-    (λ given. inr (o, data_table plan o, refl, refl, has-object v plan has o given, table_good v plan has small ranged o)) h)
+    (λ given. inr (o, data_table plan o, refl, refl, has-object v plan has o given, table_good v plan has small o)) h)
 
 pub plan_good : (plan : Plan) → AreSmall plan → AreRanged plan → AreMembers (version_for plan) (plan_members plan)
 unfolding plan_members
-plan_good plan small ranged = objects_good (version_for plan) plan (version-has-all plan) small ranged objects (version_alone plan) (inl refl, tt)
+plan_good plan small ranged = objects_good (version_for plan) plan (version-has-all plan ranged) small objects (version_alone plan) (inl refl, tt)

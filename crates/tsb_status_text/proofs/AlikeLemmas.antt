@@ -13,8 +13,8 @@ use Rattle.tsb_step.specs.declared.waits.Wait.{Wait}
 use Rattle.tsb_step.specs.Status.{Status}
 use Rattle.tsb_status_text.specs.Json.{array, member, number_in, numbers, object, onto, optional, string, values_from}
 use Rattle.tsb_status_text.specs.Names.{desk_name, flash_name, free_name, preempt_name}
-use Rattle.tsb_status.specs.Alike.{Alike}
-use Rattle.tsb_status_text.specs.StatusText.{phases_text, overlaps_text, detectors_text, is_not_active, preempts_text, shown_preempts, state_text, desk_text, ring_text, rings_text, time_member, wait_in, wait_text, waits_text, status_text}
+use Rattle.tsb_status.specs.Alike.{AgreeIfAny, Alike}
+use Rattle.tsb_status_text.specs.StatusText.{phases_text, arrows_member, overlaps_text, detectors_text, is_not_active, preempts_text, shown_preempts, state_text, desk_text, ring_text, rings_text, time_member, wait_in, wait_text, waits_text, status_text}
 
 values-same : (f g : ℕ → Option (List ℕ)) (a n : ℕ) → ((p : ℕ) → a ≤ p → p < a + n → f p ≡ g p) → values_from f a n ≡ values_from g a n
 unfolding values_from
@@ -49,13 +49,19 @@ phases-same x y a = λ i. object (
     ∷ member (codes "phaseNexts") (numbers-same x.phase_nexts y.phase_nexts 16 a.phase_nexts i)
     ∷ [])
 
+arrows-same : (x y : Option (ℕ → Bool)) → AgreeIfAny x y → arrows_member x ≡ arrows_member y
+arrows-same None None same = refl
+arrows-same None (Some g) same = absurd same
+arrows-same (Some f) None same = absurd same
+arrows-same (Some f) (Some g) same = λ i. member (codes "flashingYellows") (numbers-same f g OVERLAPS same i) ∷ []
+
 overlaps-same : (x y : Status) → Alike x y → overlaps_text x ≡ overlaps_text y
 unfolding overlaps_text
 overlaps-same x y a = λ i. object (
     member (codes "reds") (numbers-same x.overlap_reds y.overlap_reds OVERLAPS a.overlap_reds i)
     ∷ member (codes "yellows") (numbers-same x.overlap_yellows y.overlap_yellows OVERLAPS a.overlap_yellows i)
     ∷ member (codes "greens") (numbers-same x.overlap_greens y.overlap_greens OVERLAPS a.overlap_greens i)
-    ∷ [])
+    ∷ arrows-same x.overlap_arrows y.overlap_arrows a.overlap_arrows i)
 
 detectors-same : (x y : Status) → Alike x y → detectors_text x ≡ detectors_text y
 unfolding detectors_text

@@ -59,7 +59,7 @@ zero_elsewhere plan whole o i hasnt = elim (cases_Bool (has_index o i)) [
   | inr out ↦ whole.elsewhere o i out
   | inl has ↦ elim (cases_Bool (plan.value o i == 0)) [
     | inl zero_is ↦ eqb-true (plan.value o i) 0 zero_is
-    | inr other ↦ absurd (false≢true (sym hasnt ∙ version-has-all plan o i (grind (arith, nat_tests, has)) (grind (arith, nat_tests, has)) other))
+    | inr other ↦ absurd (false≢true (sym hasnt ∙ (version-has-all plan whole.ranged o i (grind (arith, nat_tests, has)) (grind (arith, nat_tests, has)) other).0))
   ]
 ]
 

@@ -33,13 +33,18 @@ phases_text s = object (
     ∷ member (codes "phaseNexts") (numbers s.phase_nexts 16)
     ∷ [])
 
+-- the arrows that flash yellow, where the plan has an arrow
+abbrev pub arrows_member : Option (ℕ → Bool) → List (List ℕ)
+arrows_member None = []
+arrows_member (Some arrows) = member (codes "flashingYellows") (numbers arrows OVERLAPS) ∷ []
+
 -- overlapStatusGroup: Reds, Yellows, Greens
 unfoldable pub overlaps_text : Status → List ℕ
 overlaps_text s = object (
     member (codes "reds") (numbers s.overlap_reds OVERLAPS)
     ∷ member (codes "yellows") (numbers s.overlap_yellows OVERLAPS)
     ∷ member (codes "greens") (numbers s.overlap_greens OVERLAPS)
-    ∷ [])
+    ∷ arrows_member s.overlap_arrows)
 
 -- vehicleDetectorStatusGroup: Active, Alarms
 unfoldable pub detectors_text : Status → List ℕ
@@ -136,8 +141,10 @@ wait_name (waits.Barrier q) = codes "barrier"
 wait_name (waits.Green q lack) = codes "green"
 wait_name (waits.Conflict q) = codes "conflict"
 wait_name waits.Turn = codes "turn"
+wait_name (waits.Trails q o left) = codes "trails"
 
--- its parts: the preempt, the phase that is waited for, what that one lacks, and the time that is left
+-- its parts: the preempt, the phase that is waited for, what that one lacks or the overlap that holds it, and the time
+-- that is left
 abbrev pub wait_members : Wait → List (List ℕ)
 wait_members waits.Flash = []
 wait_members waits.Omitted = []
@@ -153,6 +160,8 @@ wait_members (waits.Barrier q) = member (codes "of") (optional q) ∷ []
 wait_members (waits.Green q lack) = member (codes "of") (decimal q) ∷ lack_members lack
 wait_members (waits.Conflict q) = member (codes "of") (decimal q) ∷ []
 wait_members waits.Turn = []
+wait_members (waits.Trails q o left) =
+    member (codes "of") (decimal q) ∷ member (codes "overlap") (decimal o) ∷ member (codes "left") (decimal left) ∷ []
 
 -- what phase p waits for
 unfoldable pub wait_text : ℕ → Wait → List ℕ

@@ -1,15 +1,15 @@
 //! The line, and its groups of status objects.
-ghost use Rattle.std.specs.Prelude.{◌≡◌, ◌≤◌, ◌+◌, ◌-◌, ◌++◌, get_or, length};
+ghost use Rattle.std.specs.Prelude.{◌≡◌, ◌≤◌, ◌+◌, ◌-◌, ◌++◌, get_or, length, option_map};
 ghost use Rattle.tsb_types.specs.Sets.{has_detector, has_number};
 ghost use Rattle.tsb_types.specs.declared.limits.TheConstants.{OVERLAPS, PREEMPTS, VEHICLE_DETECTORS};
 ghost use Rattle.tsb_step.specs.declared.status.PreemptState.TheVariants.{NotActive};
 ghost use Rattle.tsb_status.specs.Plain.{resting, ring_place, ring_status_of, status_of};
 ghost use Rattle.tsb_status_text.specs.Alike.{TellsAllAlike};
-ghost use Rattle.tsb_status_text.specs.Json.{numbers, optional, string};
+ghost use Rattle.tsb_status_text.specs.Json.{more, numbers, optional, string};
 ghost use Rattle.tsb_status_text.specs.Names.{preempt_name};
 ghost use Rattle.tsb_lines.specs.ShortLines.{AddsShort};
 ghost use Rattle.tsb_status_text.specs.declared.line.TheConstants.{LONGEST};
-ghost use Rattle.tsb_status_text.specs.StatusText.{desk_text, detectors_text, end_text, is_not_active, overlaps_text, phases_text, preempts_text, rings_text, shown_preempts, status_text, waits_text};
+ghost use Rattle.tsb_status_text.specs.StatusText.{arrows_member, desk_text, detectors_text, end_text, is_not_active, overlaps_text, phases_text, preempts_text, rings_text, shown_preempts, status_text, waits_text};
 
 use crate::line::{
     StatusLine, push_byte, push_detector_numbers, push_named, push_numbers, push_optional, separate,
@@ -129,14 +129,27 @@ fn push_phases(line: &mut StatusLine, status: &Status)
     line.push(b"}");
 }
 
+/// Adds the arrows that flash yellow to a line, where the plan has an arrow, and closes overlapStatusGroup.
+fn push_arrows(line: &mut StatusLine, arrows: Option<NumberSet>)
+    ensures { AddsShort LONGEST 60 line.old (more (arrows_member (option_map has_number arrows)) 125) line.new }
+{
+    match arrows {
+        None => line.push(b"}"),
+        Some(set) => {
+            push_overlap_set(line, b",\"flashingYellows\":", set);
+            line.push(b"}");
+        }
+    }
+}
+
 /// Adds overlapStatusGroup to a line.
 fn push_overlaps(line: &mut StatusLine, status: &Status)
-    ensures { AddsShort LONGEST 150 line.old (overlaps_text (status_of status.entry.now)) line.new }
+    ensures { AddsShort LONGEST 209 line.old (overlaps_text (status_of status.entry.now)) line.new }
 {
     push_overlap_set(line, b"{\"reds\":", status.overlap_reds);
     push_overlap_set(line, b",\"yellows\":", status.overlap_yellows);
     push_overlap_set(line, b",\"greens\":", status.overlap_greens);
-    line.push(b"}");
+    push_arrows(line, status.overlap_arrows);
 }
 
 /// Adds vehicleDetectorStatusGroup to a line.

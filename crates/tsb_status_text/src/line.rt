@@ -11,7 +11,7 @@ use tsb_types::limits::VEHICLE_DETECTORS;
 use tsb_types::{DetectorSet, NumberSet, Phase};
 
 /// The most bytes that the line of a status can have.
-pub const LONGEST: usize = 3_234;
+pub const LONGEST: usize = 3_293;
 
 /// The bytes of a line.
 pub type StatusLine = ShortLine<LONGEST>;

@@ -1,15 +1,15 @@
 //! The line of a plan.
 ghost use Rattle.std.specs.List.{list_all};
-ghost use Rattle.std.specs.Prelude.{◌≡◌, ◌==◌, ◌||◌, ◌++◌, true, IfOk, None, Ok, OnOk};
+ghost use Rattle.std.specs.Prelude.{◌≡◌, ◌==◌, ◌&&◌, ◌||◌, ◌++◌, nat_le, true, IfOk, None, Ok, OnOk};
 ghost use Rattle.json.specs.Json.{Members, object};
 ghost use Rattle.json.specs.Tree.{json_tokens, members_tokens};
 ghost use Rattle.tsb_objects.specs.tsb_rules.Rules.{first_broken};
 ghost use Rattle.tsb_plan.specs.declared.version.Version.TheVariants.{Two};
 ghost use Rattle.tsb_plan.specs.Objects.{has_index};
 ghost use Rattle.tsb_plan.specs.PlanOf.{plan_of};
-ghost use Rattle.tsb_plan.specs.Versions.{has_index_in};
+ghost use Rattle.tsb_plan.specs.Versions.{greatest_in, has_index_in};
 ghost use Rattle.tsb_plan_text.specs.PlanText.{reading};
-ghost use Rattle.tsb_status_text.specs.PlanLine.{fits_version_2, is_all_zeros, members_of, plan_text, table, version_for, with_entry, with_object};
+ghost use Rattle.tsb_status_text.specs.PlanLine.{fits_version_2, is_all_zeros, is_of_version_2, members_of, plan_text, table, version_for, with_entry, with_object};
 
 use crate::laws::lines_are_read_back;
 use itoa::Buffer;
@@ -21,7 +21,7 @@ use tsb_objects::{Object, Plan, Version};
 const VERSION: &str = "version";
 
 /// The plan as one plan text, without spaces and without a line feed. The text is of version 2, or of version 3 where an
-/// object is not 0 at an index that version 2 has not.
+/// object is not 0 at an index that version 2 has not, or has a value there that version 2 has not.
 ///
 /// `version` comes first, then each object that is not all zeros, in the order of `Object::ALL`, and of each object the
 /// indices at which it is not 0, in ascending order. So two plans are the same exactly where their lines are. An `Err`
@@ -53,14 +53,14 @@ fn version_for(plan: &Plan) -> Version
     }
 }
 
-/// Whether version 2 has each index at which one of these objects is not 0.
+/// Whether version 2 has each index at which one of these objects is not 0, up to its value there.
 fn all_fit_version_2(plan: &Plan, objects: &[Object]) -> bool
     ensures { result ≡ list_all (fits_version_2 (plan_of plan.now)) objects.now }
 {
     objects.iter().all(|object| fits_version_2(plan, *object))
 }
 
-/// Whether version 2 has each index at which the object is not 0.
+/// Whether version 2 has each index at which the object is not 0, up to its value there.
 #[tactic(auto, unfolding(crate::specs::PlanLine::fits_version_2))]
 fn fits_version_2(plan: &Plan, object: Object) -> bool
     ensures { result ≡ fits_version_2 (plan_of plan.now) object }
@@ -73,21 +73,21 @@ fn fits_version_2(plan: &Plan, object: Object) -> bool
     true
 }
 
-/// Whether the object is 0 at the index, or version 2 has it there.
+/// Whether the object is 0 at the index, or version 2 has it there, up to its value.
 fn is_told(plan: &Plan, object: Object, index: u32) -> bool
     requires { has_index object index ≡ true }
-    ensures { result ≡ ((plan_of plan.now).value object index == 0 || has_index_in Two object index) }
+    ensures { result ≡ ((plan_of plan.now).value object index == 0 || is_of_version_2 (plan_of plan.now) object index) }
 {
-    plan.at(object, index) == 0 || is_in_version_2(object, index)
+    plan.at(object, index) == 0 || is_in_version_2(object, index, plan.at(object, index))
 }
 
-/// Whether version 2 has the object at the index.
-fn is_in_version_2(object: Object, index: u32) -> bool
+/// Whether version 2 has the object at the index, up to the value.
+fn is_in_version_2(object: Object, index: u32, value: u32) -> bool
     requires { has_index object index ≡ true }
-    ensures { result ≡ has_index_in Two object index }
+    ensures { result ≡ (has_index_in Two object index && nat_le value (greatest_in Two object)) }
 {
     match object.range_in(Version::Two) {
-        Some(range) => index <= range.indices,
+        Some(range) => index <= range.indices && value <= range.greatest,
         None => false,
     }
 }

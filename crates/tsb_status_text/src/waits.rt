@@ -7,7 +7,7 @@ ghost use Rattle.tsb_status_text.specs.StatusText.{lack_members, lack_name, lack
 
 use crate::line::{StatusLine, push_byte, push_named, push_phase, separate};
 use tsb_step::{Lack, Wait};
-use tsb_types::{Phase, Preempt};
+use tsb_types::{Overlap, Phase, Preempt};
 
 /// The name of what is lacking.
 fn lack_name(lack: &Lack) -> &'static [u8]
@@ -56,6 +56,7 @@ fn wait_name(wait: &Wait) -> &'static [u8]
         Wait::Green(_, _) => b"green",
         Wait::Conflict(_) => b"conflict",
         Wait::Turn => b"turn",
+        Wait::Trails(_, _, _) => b"trails",
     }
 }
 
@@ -112,6 +113,19 @@ fn push_clearing(line: &mut StatusLine, phase: Phase, left: u32)
     push_left(line, left);
 }
 
+/// Adds the phase that is waited for to a line, with the overlap that holds it and the time that is left, and closes what
+/// they are of.
+fn push_trailing(line: &mut StatusLine, phase: Phase, overlap: Overlap, left: u32)
+    ensures { AddsShort LONGEST 40 line.old
+        (more (member (codes "of") (decimal phase) ∷ member (codes "overlap") (decimal overlap) ∷ member (codes "left") (decimal left) ∷ []) 125)
+        line.new }
+{
+    push_of(line, phase);
+    line.push(b",\"overlap\":");
+    push_byte(line, overlap.number());
+    push_left(line, left);
+}
+
 /// Adds the preempt that is waited for to a line, and closes what it is of.
 fn push_preempt(line: &mut StatusLine, preempt: Preempt)
     ensures { AddsShort LONGEST 15 line.old (more (member (codes "preempt") (decimal preempt) ∷ []) 125) line.new }
@@ -148,6 +162,7 @@ fn push_members(line: &mut StatusLine, wait: &Wait)
         Wait::Across(q, left) => push_clearing(line, *q, *left),
         Wait::Beside(q, left) => push_clearing(line, *q, *left),
         Wait::Green(q, lack) => push_green(line, *q, lack),
+        Wait::Trails(q, o, left) => push_trailing(line, *q, *o, *left),
     }
 }
 

@@ -1,6 +1,6 @@
 -- What is said of an answer, where a bench has come from power-up by some inputs.
-use Rattle.std.proofs.Common.{◌≡◌, ℕ, Bool, true, false, List, [], ◌∷◌, ◌++◌, None, Some, refl, sym, ap, ◌∙◌, append_assoc, arith, Ok, Err, subst, suc, inl, inr, OnOk, OnErr}
-use Rattle.std.proofs.lemmas.Bool.{eq-eqb}
+use Rattle.std.proofs.Common.{◌≡◌, ◌≤◌, ℕ, Bool, true, false, length, List, [], ◌∷◌, ◌++◌, None, Some, refl, sym, ap, ◌∙◌, append_assoc, arith, Ok, Err, subst, suc, inl, inr, OnOk, OnErr}
+use Rattle.std.proofs.lemmas.Bool.{eq-eqb, le-ltb, lt-ltb}
 use Rattle.std.proofs.lemmas.List.{append-nil}
 use Rattle.std.specs.declared.option.Option.{Option}
 use Rattle.std.specs.declared.result.Result.{Result}
@@ -13,7 +13,7 @@ use Rattle.tsb_bench.specs.tsb_machine.declared.commands.Answer.TheVariants.{Ref
 use Rattle.tsb_bench.specs.tsb_step.declared.inputs.Input.{Input}
 use Rattle.tsb_bench.specs.tsb_step.declared.inputs.Input.TheVariants as inputs
 use Rattle.tsb_bench.specs.tsb_step.Events.{events_of, usual_after}
-use Rattle.tsb_bench.specs.tsb_step.Following.{action, following, selects}
+use Rattle.tsb_bench.specs.tsb_step.Following.{action, following, selects, with_omits}
 use Rattle.tsb_bench.specs.tsb_step.Play.{Cmd, IsRight, remaining_after}
 use Rattle.tsb_bench.specs.tsb_step.Runs.{replay}
 use Rattle.tsb_bench.specs.tsb_step.State.{State}
@@ -26,11 +26,11 @@ use Rattle.tsb_lines.specs.declared.writes.WriteError.{WriteError}
 use Rattle.tsb_log_text.specs.declared.log.LogRow.{LogRow}
 use Rattle.tsb_text.specs.declared.course.Mode.{Mode}
 use Rattle.tsb_text.specs.declared.task.Task.TheVariants.{Show, Quit}
-use Rattle.tsb_text.specs.Answers.{GoesUnless, Leads, Setup, follower, follower_of, line_in, next_tick, refused_after, refused_line, told}
-use Rattle.tsb_text.specs.Obeyed.{Answered, Done, Followed, OnCourse, Stands, TellsNext, Took, news_in, tells_in}
+use Rattle.tsb_text.specs.Answers.{GoesUnless, Leads, Setup, followers, followers_of, line_in, next_tick, refused_after, refused_line, told}
+use Rattle.tsb_text.specs.Obeyed.{Answered, Done, Followed, NextAfter, OnCourse, Stands, Took, news_in, tells_in}
 use Rattle.tsb_text.specs.Obeys.{AsksOnce, Besides, Obeys, TakesTicks, Ticked, before_line, news, news_of, or_refusal, refusal_in, trail, trail_of}
 use Rattle.tsb_text.specs.Trails.{Trailing, Trails}
-use Rattle.tsb_text.specs.Wanting.{WantsAfter, WantsPattern}
+use Rattle.tsb_text.specs.Wanting.{WantsAfter, WantsFollower, WantsOne}
 use Rattle.tsb_text.specs.kept.Kept.{last_row}
 use Rattle.tsb_text.proofs.CourseLemmas.{follows-state, told-alike}
 use Rattle.tsb_text.proofs.ObeyLemmas.{more-ticks, some-ticks}
@@ -69,65 +69,128 @@ cut-of e given log course IsAnswer p q u v d = record { text = d.text; said = d.
 
 -- ## What follows
 
--- what found no memory after an input is a pattern
-pub wants-pattern : (course : OnCourse) (next : Option Input) → WantsAfter course next → WantsPattern course
-wants-pattern course (Some (inputs.Pattern n)) wants = (n, wants)
-wants-pattern course next wants = absurd wants
+-- what found no memory after an input is a pattern, or a list of arrows
+wants-one : (course : OnCourse) (i : Input) → WantsOne course i → WantsFollower course
+wants-one course (inputs.Pattern n) wants = inl (n, wants)
+wants-one course (inputs.Omit list) wants = inr (list, wants)
+wants-one course i wants = absurd wants
+
+pub wants-followers : (course : OnCourse) (next : List Input) → WantsAfter course next → WantsFollower course
+wants-followers course [] wants = absurd wants
+wants-followers course (i ∷ next) wants = elim wants [ inl one ↦ wants-one course i one | inr later ↦ wants-followers course next later ]
 
 -- a call that says why something was refused says what it was given
 pub told-stop : (r : Result (Option Refusal) WriteError) (stop : Option Refusal) → OnOk r (r ≡ Ok stop) → r ≡ Ok (Some Memory) → stop ≡ Some Memory
 told-stop (Ok o) stop told is = grind (arith, told, is)
 told-stop (Err w) stop told is = absurd (cc)
 
--- the events of an input that has followed
-told-next : (given : Setup) (course : OnCourse) (is : List Input) (i : Input) → TellsNext (Ok true) given course is (Some i) → news_in course ≡ news (tells_in course.mode) given is i
-told-next given course is i tells = told-alike (tells_in course.mode) course.news (events_of (usual_after (last_row is)) (replay given.plan is) i) tells.1
+-- what is left has no fewer inputs
+longer : (given : Setup) (is next : List Input) (stop : Option Refusal) (left : List Input) → Leads given is next stop left → length is ≤ length left
+longer given is [] stop left leads = let same : length left ≡ length is = ap length leads.1 in omega (arith, same)
+longer given is (i ∷ next) stop left (inl taken) =
+    let more : length (i ∷ is) ≤ length left = longer given (i ∷ is) next stop left taken.1 in
+    omega (arith, more)
+longer given is (i ∷ next) stop left (inr refused) = let same : length left ≡ length is = ap length refused.left in omega (arith, same)
 
-told-trail : (given : Setup) (course : OnCourse) (is : List Input) (next : Option Input) → TellsNext (Ok true) given course is next → news_in course ≡ trail (tells_in course.mode) given is next None
-told-trail given course is None tells = let never : true ≡ false = tells in absurd (cc)
-told-trail given course is (Some i) tells = told-next given course is i tells
+-- the events of an input that was taken, and of what follows that; what was refused has none
+trail-taken : (tells : Bool) (given : Setup) (is : List Input) (i : Input) (next : List Input) (stop : Option Refusal) (left : List Input) → Leads given (i ∷ is) next stop left
+    → trail tells given is (i ∷ next) left ≡ news tells given is i ++ trail tells given (i ∷ is) next left
+trail-taken tells given is i next stop left leads =
+    let more : length (i ∷ is) ≤ length left = longer given (i ∷ is) next stop left leads in
+    rw (lt-ltb (length is) (length left) (omega (arith, more))) refl
 
--- what was refused has no events
-no-trail : (tells : Bool) (given : Setup) (is : List Input) (next : Option Input) (e : Refusal) → trail tells given is next (Some e) ≡ []
-no-trail tells given is None e = refl
-no-trail tells given is (Some i) e = refl
+trail-refused : (tells : Bool) (given : Setup) (is : List Input) (i : Input) (next left : List Input) → left ≡ is → trail tells given is (i ∷ next) left ≡ []
+trail-refused tells given is i next left same =
+    let all : length left ≡ length is = ap length same in
+    rw (le-ltb (length is) (length left) (omega (arith, all))) refl
 
-none-next : (given : Setup) (course : OnCourse) (tells : Bool) (is : List Input) (next : Option Input) → TellsNext (Ok false) given course is next → trail tells given is next None ≡ []
-none-next given course tells is None told = refl
-none-next given course tells is (Some i) told = let never : false ≡ true = told.0 in absurd (cc)
+-- what follows is told so: it was taken, and what follows that is told; or nothing is left, or it was refused
+trailing-taken : (tells : Bool) (given : Setup) (is : List Input) (i : Input) (next : List Input) (text : List ℕ) (stop : Option Refusal) (left : List Input) → IsRight given.plan is (Apply i) answers.Took
+    → Trailing given tells (i ∷ is) next text stop left → Trailing given tells is (i ∷ next) (news tells given is i ++ text) stop left
+trailing-taken tells given is i next text stop left right t = record {
+  leads = inl (right, t.leads);
+  told = ap (λ (v : List ℕ). news tells given is i ++ v) t.told ∙ sym (trail-taken tells given is i next stop left t.leads);
+}
 
-module _ (r : Result Bool Refusal) (given : Setup) (log : List LogRow) (is : List Input) (next : Option Input) (course : OnCourse) (mode : Mode) (same : course.mode ≡ mode) (f : Followed r given log next course is) where
-  at-once : (x : Result Bool Refusal) → r ≡ x → Followed x given log next course is
-  at-once x at = subst (λ (y : Result Bool Refusal). Followed y given log next course is) at f
+trailing-none : (tells : Bool) (given : Setup) (is : List Input) → Trailing given tells is [] [] None is
+trailing-none tells given is = record { leads = (refl, refl); told = refl }
 
-  -- something has followed, with these events
-  told-so : r ≡ Ok true → (left : List Input) × Stands given log course left × Trailing given (tells_in mode) is next (news_in course) None left
-  told-so at =
-      let x : Followed (Ok true) given log next course is = at-once (Ok true) at in
-      (x.0, x.2, record { leads = x.1; told = told-trail given course is next x.3 ∙ ap (λ (m : Mode). trail (tells_in m) given is next None) same })
+trailing-refused : (tells : Bool) (given : Setup) (is : List Input) (i : Input) (next : List Input) (e : Refusal) → IsRight given.plan is (Apply i) (Refused e)
+    → Trailing given tells is (i ∷ next) [] (Some e) is
+trailing-refused tells given is i next e right = record {
+  leads = inr (record { why = e; right = right; refused = refl; left = refl });
+  told = sym (trail-refused tells given is i next is refl);
+}
 
-  -- they were said
-  pub follow-done : (p q : Option (List ℕ)) (u v : List ℕ) → r ≡ Ok true → Said p q u v (news_in course) → Done (Ok None) given log course (Trailing given (tells_in mode) is next) p q u v
-  follow-done p q u v at said =
-      let x : (left : List Input) × Stands given log course left × Trailing given (tells_in mode) is next (news_in course) None left = told-so at in
-      done-all given log course (Trailing given (tells_in mode) is next) None x.0 (news_in course) p q u v x.1 x.2 said
+-- so far: what is yet to be taken says the rest
+abbrev pub TrailsOn : Setup → Bool → List Input → List Input → List Input → List Input → List ℕ → Type 0
+TrailsOn given tells is first now next said =
+    (text : List ℕ) (stop : Option Refusal) (left : List Input) → Trailing given tells now next text stop left → Trailing given tells is first (said ++ text) stop left
 
-  pub follow-fault : (e : WriteError) (p q : Option (List ℕ)) (u v : List ℕ) → r ≡ Ok true → IsCutShort p q u v (news_in course) → Done (Err e) given log course (Trailing given (tells_in mode) is next) p q u v
-  follow-fault e p q u v at cut =
-      let x : (left : List Input) × Stands given log course left × Trailing given (tells_in mode) is next (news_in course) None left = told-so at in
-      done-cut e given log course (Trailing given (tells_in mode) is next) None x.0 (news_in course) p q u v x.2 cut
+pub record Trailed (given : Setup) (log : List LogRow) (tells : Bool) (is first : List Input) (course : OnCourse) (p q : Option (List ℕ)) (u v : List ℕ) : Type 0 where
+  pub now : List Input
+  pub stands : Stands given log course now
+  pub wrote : Wrote p q u v (TrailsOn given tells is first now course.next)
 
-  -- nothing has followed
-  pub follow-none : (p : Option (List ℕ)) (u : List ℕ) → r ≡ Ok false → Done (Ok None) given log course (Trailing given (tells_in mode) is next) p p u u
-  follow-none p u at =
-      let x : Followed (Ok false) given log next course is = at-once (Ok false) at in
-      done-all given log course (Trailing given (tells_in mode) is next) None x.0 [] p p u u x.2 (record { leads = x.1; told = sym (none-next given course (tells_in mode) is next x.3) }) (said-nothing p u)
+pub trailed-start : (given : Setup) (log : List LogRow) (tells : Bool) (is : List Input) (course : OnCourse) (p : Option (List ℕ)) (u : List ℕ) → Stands given log course is → Trailed given log tells is course.next course p p u u
+trailed-start given log tells is course p u s =
+    record { now = is; stands = s; wrote = record { text = []; said = said-nothing p u; so = λ text stop left t. t } }
 
-  -- it was refused
-  pub follow-refused : (e : Refusal) (p : Option (List ℕ)) (u : List ℕ) → r ≡ Err e → Done (Ok (Some e)) given log course (Trailing given (tells_in mode) is next) p p u u
-  follow-refused e p u at =
-      let x : Followed (Err e) given log next course is = at-once (Err e) at in
-      done-all given log course (Trailing given (tells_in mode) is next) (Some e) x.0 [] p p u u x.2 (record { leads = x.1; told = sym (no-trail (tells_in mode) given is next e) }) (said-nothing p u)
+-- what the newest input told
+news-same : (given : Setup) (log : List LogRow) (now : List Input) (new : OnCourse) (mode : Mode) (i : Input) → new.mode ≡ mode → Took (Ok tt) given log new now i → news_in new ≡ news (tells_in mode) given now i
+news-same given log now new mode i same took =
+    told-alike (tells_in new.mode) new.news (events_of (usual_after (last_row now)) (replay given.plan now) i) took.2 ∙ ap (λ (m : Mode). news (tells_in m) given now i) same
+
+module _ (given : Setup) (log : List LogRow) (mode : Mode) (is first now : List Input) (new : OnCourse) (same : new.mode ≡ mode) (a b c : Option (List ℕ)) (p q r : List ℕ) where
+  -- one more was taken, and its events were said
+  pub trailed-more : (next : List Input) (said : List ℕ) → Followed (Ok true) given log next new now → NextAfter (Ok true) next new.next → Said a b p q said → TrailsOn given (tells_in mode) is first now next said
+      → Said b c q r (news_in new) → Trailed given log (tells_in mode) is first new a c p r
+  trailed-more [] said followed after before on there = let never : true ≡ false = after.0 in absurd (cc)
+  trailed-more (i ∷ next) said followed after before on there = record {
+    now = i ∷ now;
+    stands = followed.1;
+    wrote = record {
+      text = said ++ news_in new;
+      said = said-more a b c p q r said (news_in new) before there;
+      so = λ text stop left t.
+          (let further : Trailing given (tells_in mode) (i ∷ now) next text stop left = subst (λ (n : List Input). Trailing given (tells_in mode) (i ∷ now) n text stop left) after.1 t in
+          let all : Trailing given (tells_in mode) is first (said ++ (news (tells_in mode) given now i ++ text)) stop left =
+          on (news (tells_in mode) given now i ++ text) stop left (trailing-taken (tells_in mode) given now i next text stop left followed.0 further) in
+          subst (λ (v : List ℕ). Trailing given (tells_in mode) is first v stop left)
+          ((λ j. said ++ (sym (news-same given log now new mode i same followed) j ++ text)) ∙ sym (append_assoc said (news_in new) text)) all);
+    };
+  }
+
+  -- a fault came within its events
+  pub trailed-fault : (e : WriteError) (next : List Input) (said : List ℕ) → Followed (Ok true) given log next new now → NextAfter (Ok true) next new.next → Said a b p q said
+      → TrailsOn given (tells_in mode) is first now next said → IsCutShort b c q r (news_in new) → Done (Err e) given log new (Trailing given (tells_in mode) is first) a c p r
+  trailed-fault e [] said followed after before on cut = let never : true ≡ false = after.0 in absurd (cc)
+  trailed-fault e (i ∷ next) said followed after before on cut =
+      let f : (stop : Option Refusal) × (left : List Input) × Leads given (i ∷ now) next stop left = some-leads given (i ∷ now) next in
+      let behind : List ℕ = trail (tells_in mode) given (i ∷ now) next f.1 in
+      let own : news_in new ≡ news (tells_in mode) given now i = news-same given log now new mode i same followed in
+      let all : Trailing given (tells_in mode) is first (said ++ (news (tells_in mode) given now i ++ behind)) f.0 f.1 =
+      on (news (tells_in mode) given now i ++ behind) f.0 f.1 (trailing-taken (tells_in mode) given now i next behind f.0 f.1 followed.0 (record { leads = f.2; told = refl })) in
+      done-cut e given log new (Trailing given (tells_in mode) is first) f.0 f.1 (said ++ (news_in new ++ behind)) a c p r
+      (subst (λ (v : List ℕ). Trailing given (tells_in mode) is first (said ++ (v ++ behind)) f.0 f.1) (sym own) all)
+      (until-more {T = Unit {0}} (Err e) a b c p q r said (news_in new ++ behind) before (still-cut b c q r (news_in new) behind cut))
+
+module _ (given : Setup) (log : List LogRow) (mode : Mode) (is first now : List Input) (new : OnCourse) (a b : Option (List ℕ)) (p q : List ℕ) where
+  -- nothing is left
+  pub trailed-none : (next : List Input) (said : List ℕ) → Followed (Ok false) given log next new now → NextAfter (Ok false) next new.next → Said a b p q said
+      → TrailsOn given (tells_in mode) is first now next said → Done (Ok None) given log new (Trailing given (tells_in mode) is first) a b p q
+  trailed-none [] said followed after before on =
+      done-all given log new (Trailing given (tells_in mode) is first) None now said a b p q followed
+      (subst (λ (v : List ℕ). Trailing given (tells_in mode) is first v None now) (append-nil said) (on [] None now (trailing-none (tells_in mode) given now))) before
+  trailed-none (i ∷ next) said followed after before on = let never : false ≡ true = after.0 in absurd (cc)
+
+  -- one was refused
+  pub trailed-refused : (e : Refusal) (next : List Input) (said : List ℕ) → Followed (Err e) given log next new now → Said a b p q said
+      → TrailsOn given (tells_in mode) is first now next said → Done (Ok (Some e)) given log new (Trailing given (tells_in mode) is first) a b p q
+  trailed-refused e [] said followed before on = absurd followed
+  trailed-refused e (i ∷ next) said followed before on =
+      done-all given log new (Trailing given (tells_in mode) is first) (Some e) now said a b p q followed.1
+      (subst (λ (v : List ℕ). Trailing given (tells_in mode) is first v (Some e) now) (append-nil said) (on [] (Some e) now (trailing-refused (tells_in mode) given now i next e followed.0))) before
 
 -- so of a course that is the same
 pub follow-there : (r : Result (Option Refusal) WriteError) (here there new : OnCourse) (p q : Option (List ℕ)) (u v : List ℕ) → there ≡ here
@@ -142,7 +205,7 @@ follow-there r here there new p q u v same done given log inputs =
 abbrev trails_text : List ℕ → List ℕ → List ℕ → List ℕ → Option Refusal → List ℕ
 trails_text news trailing line echo refusal = (news ++ trailing) ++ (with_feed line ++ refused_after echo refusal)
 
-module _ (given : Setup) (besides : Besides) (is : List Input) (next : Option Input) (news line : List ℕ) where
+module _ (given : Setup) (besides : Besides) (is next : List Input) (news line : List ℕ) where
   trails : (text : List ℕ) (refusal : Option Refusal) (left : List Input) → Trailing given besides.tells is next text refusal left
       → Trails given besides is next news line (trails_text news text line besides.echo refusal) refusal left
   trails text refusal left t = record { leads = t.leads; told = ap (λ (v : List ℕ). trails_text news v line besides.echo refusal) t.told }
@@ -151,9 +214,9 @@ module _ (given : Setup) (besides : Besides) (is : List Input) (next : Option In
   pub trails-cut-news : (e : WriteError) (log : List LogRow) (course : OnCourse) (a b : Option (List ℕ)) (p q : List ℕ) → IsCutShort a b p q news → Done (Err e) given log course (Trails given besides is next news line) a b p q
   trails-cut-news e log course a b p q cut =
       let f : (stop : Option Refusal) × (left : List Input) × Leads given is next stop left = some-leads given is next in
-      done-cut e given log course (Trails given besides is next news line) f.0 f.1 (trails_text news (trail besides.tells given is next f.0) line besides.echo f.0) a b p q
-      (trails (trail besides.tells given is next f.0) f.0 f.1 (record { leads = f.2; told = refl }))
-      (still-cut a b p q (news ++ trail besides.tells given is next f.0) (with_feed line ++ refused_after besides.echo f.0) (still-cut a b p q news (trail besides.tells given is next f.0) cut))
+      done-cut e given log course (Trails given besides is next news line) f.0 f.1 (trails_text news (trail besides.tells given is next f.1) line besides.echo f.0) a b p q
+      (trails (trail besides.tells given is next f.1) f.0 f.1 (record { leads = f.2; told = refl }))
+      (still-cut a b p q (news ++ trail besides.tells given is next f.1) (with_feed line ++ refused_after besides.echo f.0) (still-cut a b p q news (trail besides.tells given is next f.1) cut))
 
   module _ (log : List LogRow) (new : OnCourse) (a b c : Option (List ℕ)) (p q r : List ℕ) where
     -- in the events of what follows
@@ -223,30 +286,31 @@ check-alone s station = go s.plan (action s)
     go plan None = refl
     go plan (Some a) = rw (eq-eqb a a refl) refl
 
-check-follows : (acts : Bool) (given : Setup) (is : List Input) (station : ℕ) → given.acts ≡ acts → follower given is (inputs.Verify station) ≡ None
-check-follows true given is station acts = rw acts (check-alone (replay given.plan is) station)
+check-follows : (acts : Bool) (given : Setup) (is : List Input) (station : ℕ) → given.acts ≡ acts → followers given is (inputs.Verify station) ≡ []
+check-follows true given is station acts =
+    rw acts (ap (with_omits (step (replay given.plan is) (inputs.Verify station))) (check-alone (replay given.plan is) station))
 check-follows false given is station acts = rw acts refl
 
 -- what follows leaves the line of an answer as it was: of an answer that shows a state nothing follows
-alone-told : (given : Setup) (after : List Input) (stop : Option Refusal) (left : List Input) (cmd : Cmd) (a : Answer) (next : Option Input) → next ≡ None → Leads given after next stop left
+alone-told : (given : Setup) (after : List Input) (stop : Option Refusal) (left : List Input) (cmd : Cmd) (a : Answer) (next : List Input) → next ≡ [] → Leads given after next stop left
     → told given.is_wide cmd a (replay given.plan left) ≡ told given.is_wide cmd a (replay given.plan after)
 alone-told given after stop left cmd a next none leads =
-    let l : (stop ≡ None) × (left ≡ after) = subst (λ (n : Option Input). Leads given after n stop left) none leads in
+    let l : (stop ≡ None) × (left ≡ after) = subst (λ (n : List Input). Leads given after n stop left) none leads in
     ap (λ (is : List Input). told given.is_wide cmd a (replay given.plan is)) l.1
 
-line-stays : (given : Setup) (is : List Input) (cmd : Cmd) (a : Answer) (stop : Option Refusal) (left : List Input) → Leads given (remaining_after given.plan is cmd a) (follower_of given is cmd a) stop left
+line-stays : (given : Setup) (is : List Input) (cmd : Cmd) (a : Answer) (stop : Option Refusal) (left : List Input) → Leads given (remaining_after given.plan is cmd a) (followers_of given is cmd a) stop left
     → told given.is_wide cmd a (replay given.plan left) ≡ told given.is_wide cmd a (replay given.plan (remaining_after given.plan is cmd a))
 line-stays given is (Apply (inputs.Verify station)) answers.Took stop left leads =
-    alone-told given (inputs.Verify station ∷ is) stop left (Apply (inputs.Verify station)) answers.Took (follower given is (inputs.Verify station)) (check-follows given.acts given is station refl) leads
+    alone-told given (inputs.Verify station ∷ is) stop left (Apply (inputs.Verify station)) answers.Took (followers given is (inputs.Verify station)) (check-follows given.acts given is station refl) leads
 line-stays given is (Apply i) answers.Took stop left leads = refl
-line-stays given is cmd a stop left leads = alone-told given (remaining_after given.plan is cmd a) stop left cmd a None refl leads
+line-stays given is cmd a stop left leads = alone-told given (remaining_after given.plan is cmd a) stop left cmd a [] refl leads
 
 -- all that is said of an answer that is no refusal, with these lines of what follows
 abbrev once_text : List ℕ → Answer → List ℕ → List ℕ → Bool → Cmd → State → Option Refusal → List ℕ
 once_text echo a news trailing is_wide cmd s stop = (before_line echo a news ++ trailing) ++ (with_feed (told is_wide cmd a s) ++ refused_after echo stop)
 
 module _ (given : Setup) (log : List LogRow) (is : List Input) (cmd : Cmd) (a : Answer) (mid : OnCourse) (mode : Mode) (echo : List ℕ) (same : mid.mode ≡ mode) (none : None ≡ refusal_in a)
-    (s : Answered given log mid is cmd a) (next : mid.next ≡ follower_of given is cmd a) where
+    (s : Answered given log mid is cmd a) (next : mid.next ≡ followers_of given is cmd a) where
   -- what remains before what follows
   abbrev after : List Input
   after = remaining_after given.plan is cmd a
@@ -254,18 +318,18 @@ module _ (given : Setup) (log : List LogRow) (is : List Input) (cmd : Cmd) (a : 
   abbrev IsOnce : List ℕ → Option Refusal → List Input → Type 0
   IsOnce = AsksOnce given (record { tells = tells_in mode; echo = echo }) is cmd
 
-  abbrev Trailed : List ℕ → Option Refusal → List Input → Type 0
-  Trailed = Trailing given (tells_in mid.mode) after mid.next
+  abbrev TrailedThere : List ℕ → Option Refusal → List Input → Type 0
+  TrailedThere = Trailing given (tells_in mid.mode) after mid.next
 
-  leads-there : (stop : Option Refusal) (left : List Input) → Leads given after mid.next stop left → Leads given after (follower_of given is cmd a) stop left
-  leads-there stop left leads = subst (λ (n : Option Input). Leads given after n stop left) next leads
+  leads-there : (stop : Option Refusal) (left : List Input) → Leads given after mid.next stop left → Leads given after (followers_of given is cmd a) stop left
+  leads-there stop left leads = subst (λ (n : List Input). Leads given after n stop left) next leads
 
-  once : (text : List ℕ) (stop : Option Refusal) (left : List Input) (is_wide : Bool) (state : State) → Trailed text stop left
+  once : (text : List ℕ) (stop : Option Refusal) (left : List Input) (is_wide : Bool) (state : State) → TrailedThere text stop left
       → told is_wide cmd a state ≡ told given.is_wide cmd a (replay given.plan after) → IsOnce (once_text echo a (news_in mid) text is_wide cmd state stop) stop left
   once text stop left is_wide state t line =
       let before : before_line echo a (news_in mid) ≡ before_line echo a (news_of (tells_in mode) given is cmd) =
       before-same echo a (news_in mid) (news_of (tells_in mode) given is cmd) (λ took. s.tells took ∙ ap (λ (m : Mode). news_of (tells_in m) given is cmd) same) in
-      let trailing : text ≡ trail_of (tells_in mode) given is cmd a stop = t.told ∙ (λ j. trail (tells_in (same j)) given after (next j) stop) in
+      let trailing : text ≡ trail_of (tells_in mode) given is cmd a left = t.told ∙ (λ j. trail (tells_in (same j)) given after (next j) left) in
       record {
         answer = a;
         right = s.right;
@@ -279,7 +343,7 @@ module _ (given : Setup) (log : List LogRow) (is : List Input) (cmd : Cmd) (a : 
   pub ask-cut-before : (e : WriteError) (p q : Option (List ℕ)) (u v : List ℕ) → IsCutShort p q u v (before_line echo a (news_in mid)) → Done (Err e) given log mid IsOnce p q u v
   ask-cut-before e p q u v cut =
       let f : (stop : Option Refusal) × (left : List Input) × Leads given after mid.next stop left = some-leads given after mid.next in
-      let tells : List ℕ = trail (tells_in mid.mode) given after mid.next f.0 in
+      let tells : List ℕ = trail (tells_in mid.mode) given after mid.next f.1 in
       let state : State = replay given.plan after in
       done-cut e given log mid IsOnce f.0 f.1 (once_text echo a (news_in mid) tells given.is_wide cmd state f.0) p q u v
       (once tells f.0 f.1 given.is_wide state (record { leads = f.2; told = refl }) refl)
@@ -288,16 +352,16 @@ module _ (given : Setup) (log : List LogRow) (is : List Input) (cmd : Cmd) (a : 
 
   module _ (new : OnCourse) where
     -- in the events of what follows
-    pub ask-cut-next : (e : WriteError) (x y z : Option (List ℕ)) (p q r : List ℕ) → Said x y p q (before_line echo a (news_in mid)) → Done (Err e) given log new Trailed y z q r → Done (Err e) given log new IsOnce x z p r
+    pub ask-cut-next : (e : WriteError) (x y z : Option (List ℕ)) (p q r : List ℕ) → Said x y p q (before_line echo a (news_in mid)) → Done (Err e) given log new TrailedThere y z q r → Done (Err e) given log new IsOnce x z p r
     ask-cut-next e x y z p q r said d =
         let state : State = replay given.plan after in
         done-cut e given log new IsOnce d.so.1 d.so.2 (once_text echo a (news_in mid) (d.text ++ d.so.0) given.is_wide cmd state d.so.1) x z p r
         (once (d.text ++ d.so.0) d.so.1 d.so.2 given.is_wide state d.so.3 refl)
         (still-cut x z p r (before_line echo a (news_in mid) ++ (d.text ++ d.so.0)) (with_feed (told given.is_wide cmd a state) ++ refused_after echo d.so.1)
-        (until-more {T = Unit {0}} (Err e) x y z p q r (before_line echo a (news_in mid)) (d.text ++ d.so.0) said (cut-of e given log new Trailed y z q r d)))
+        (until-more {T = Unit {0}} (Err e) x y z p q r (before_line echo a (news_in mid)) (d.text ++ d.so.0) said (cut-of e given log new TrailedThere y z q r d)))
 
     module _ (stop : Option Refusal) (x y z w : Option (List ℕ)) (p q r t : List ℕ) (said : Said x y p q (before_line echo a (news_in mid)))
-        (f : Done (Ok stop) given log new Trailed y z q r) where
+        (f : Done (Ok stop) given log new TrailedThere y z q r) where
       -- the line shows the state before what follows
       shows : told new.is_wide cmd a (state_of new.bench) ≡ told given.is_wide cmd a (replay given.plan after)
       shows =
@@ -362,12 +426,12 @@ steps-start given log besides is n k course p u all stands = record {
 
 -- a tick was taken, and what follows it; then this is said
 ticked : (given : Setup) (log : List LogRow) (besides : Besides) (now : List Input) (mid : OnCourse) (text rest : List ℕ) (stop : Option Refusal) (left : List Input)
-    → tells_in mid.mode ≡ besides.tells → Took (Ok tt) given log mid now (next_tick given now) → mid.next ≡ follower given now (next_tick given now)
+    → tells_in mid.mode ≡ besides.tells → Took (Ok tt) given log mid now (next_tick given now) → mid.next ≡ followers given now (next_tick given now)
     → Trails given (record { tells = tells_in mid.mode; echo = besides.echo }) (next_tick given now ∷ now) mid.next (news_in mid) (line_in given.is_wide (state_of mid.bench)) text stop left
     → Ticked given besides now (text ++ rest) rest stop left
 ticked given log besides now mid text rest stop left tells took next t =
     let i : Input = next_tick given now in
-    let told : List ℕ = news_in mid ++ trail (tells_in mid.mode) given (i ∷ now) mid.next stop in
+    let told : List ℕ = news_in mid ++ trail (tells_in mid.mode) given (i ∷ now) mid.next left in
     let shown : List ℕ = with_feed (line_in given.is_wide (state_of mid.bench)) in
     let refused : List ℕ = refused_after besides.echo stop in
     let state : state_of mid.bench ≡ replay given.plan (i ∷ now) = follows-state given.plan (whole mid.bench) (i ∷ now) took.1.follows in
@@ -375,16 +439,16 @@ ticked given log besides now mid text rest stop left tells took next t =
     told-alike (tells_in mid.mode) mid.news (events_of (usual_after (last_row now)) (replay given.plan now) i) took.2 ∙ ap (λ (b : Bool). news b given now i) tells in
     record {
       right = took.0;
-      leads = subst (λ (n : Option Input). Leads given (i ∷ now) n stop left) next t.leads;
+      leads = subst (λ (n : List Input). Leads given (i ∷ now) n stop left) next t.leads;
       line = ap (λ (v : List ℕ). v ++ rest) t.told ∙ append_assoc told (shown ++ refused) rest ∙ ap (λ (v : List ℕ). told ++ v) (append_assoc shown refused rest)
-          ∙ (λ j. (same j ++ trail (tells j) given (i ∷ now) (next j) stop) ++ (with_feed (line_in given.is_wide (state j)) ++ (refused ++ rest)));
+          ∙ (λ j. (same j ++ trail (tells j) given (i ∷ now) (next j) left) ++ (with_feed (line_in given.is_wide (state j)) ++ (refused ++ rest)));
     }
 
 -- a tick that takes a bench to another, with what follows it
 module _ (given : Setup) (log : List LogRow) (besides : Besides) (is : List Input) (n : ℕ) (old mid new : OnCourse) (left k : ℕ) (a b c : Option (List ℕ)) (p q r : List ℕ)
     (s : Stepping given log besides is n old left a b p q) (one : left ≡ suc k) (tells : tells_in mid.mode ≡ besides.tells)
     (took : (given : Setup) (log : List LogRow) (inputs : List Input) → Stands given log old inputs → Took (Ok tt) given log mid inputs (next_tick given inputs))
-    (next : (given : Setup) (log : List LogRow) (inputs : List Input) → Stands given log old inputs → mid.next ≡ follower given inputs (next_tick given inputs)) where
+    (next : (given : Setup) (log : List LogRow) (inputs : List Input) → Stands given log old inputs → mid.next ≡ followers given inputs (next_tick given inputs)) where
   -- all that is said of the tick
   abbrev TrailsTick : Setup → List Input → List ℕ → Option Refusal → List Input → Type 0
   TrailsTick given inputs = Trails given (record { tells = tells_in mid.mode; echo = besides.echo }) inputs mid.next (news_in mid) (line_in given.is_wide (state_of mid.bench))

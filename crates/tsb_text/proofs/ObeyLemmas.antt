@@ -1,5 +1,5 @@
 -- What a command comes to: there is some answer to each, and where nothing is said besides it is a session's.
-use Rattle.std.proofs.Common.{◌≡◌, ℕ, zero, suc, List, [], ◌∷◌, ◌++◌, Option, None, Some, refl, ap, ◌∙◌, inl, inr}
+use Rattle.std.proofs.Common.{◌≡◌, ℕ, zero, suc, Bool, true, false, if◌then◌else◌, length, nat_lt, List, [], ◌∷◌, ◌++◌, Option, None, Some, refl, ap, ◌∙◌, inl, inr}
 use Rattle.tsb_objects.specs.tsb_types.declared.refusal.Refusal.{Refusal}
 use Rattle.tsb_bench.specs.tsb_machine.declared.commands.MachineCommand.TheVariants as asks
 use Rattle.tsb_bench.specs.tsb_machine.declared.commands.Answer.{Answer}
@@ -12,8 +12,8 @@ use Rattle.tsb_command_text.specs.declared.command.Command.{Command}
 use Rattle.tsb_command_text.specs.declared.command.Command.TheVariants.{Step, Show, Quit}
 use Rattle.tsb_bench.specs.tsb_step.Runs.{replay}
 use Rattle.tsb_dialog.specs.Said.{with_feed}
-use Rattle.tsb_text.specs.Answers.{Answers, Asked, GoesUnless, Leads, Setup, Steps, follower, follower_of, line_in, next_tick, refused_after, told}
-use Rattle.tsb_text.specs.Obeys.{AsksOnce, Besides, Obeys, TakesTicks, before_line, news_of, nothing_besides, or_refusal, refusal_in, trail}
+use Rattle.tsb_text.specs.Answers.{Answers, Asked, GoesUnless, Leads, Setup, Steps, followers, followers_of, line_in, next_tick, refused_after, told}
+use Rattle.tsb_text.specs.Obeys.{AsksOnce, Besides, Obeys, TakesTicks, before_line, news, news_of, nothing_besides, or_refusal, refusal_in, trail}
 use Rattle.tsb_text.specs.Tasks.{task_of}
 use Rattle.tsb_text.specs.declared.task.Task.{Task}
 use Rattle.tsb_text.specs.declared.task.Task.TheVariants as tasks
@@ -35,7 +35,7 @@ some-ticks given besides zero is = ([], None, is, (refl, refl, refl))
 some-ticks given besides (suc n) is = elim (right-input given is (next_tick given is)) [
   | inl took ↦
       let after : List Input = next_tick given is ∷ is in
-      let next : Option Input = follower given is (next_tick given is) in
+      let next : List Input = followers given is (next_tick given is) in
       let f : (stop : Option Refusal) × (left : List Input) × Leads given after next stop left = some-leads given after next in
       let rest : (text : List ℕ) × (refusal : Option Refusal) × (new : List Input) × GoesUnless f.0 (TakesTicks given besides f.1 n text refusal new) ((text ≡ []) × (refusal ≡ f.0) × (new ≡ f.1)) =
       more-ticks given besides n f.0 f.1 (some-ticks given besides n f.1) in
@@ -45,14 +45,14 @@ some-ticks given besides (suc n) is = elim (right-input given is (next_tick give
 
 -- a right answer says what is left once what follows was taken or refused, and why it was refused
 pub asks-once : (given : Setup) (is : List Input) (cmd : Cmd) (a : Answer) (stop : Option Refusal) (left : List Input) → IsRight given.plan is cmd a
-    → Leads given (remaining_after given.plan is cmd a) (follower_of given is cmd a) stop left → (text : List ℕ) × AsksOnce given nothing_besides is cmd text (or_refusal (refusal_in a) stop) left
+    → Leads given (remaining_after given.plan is cmd a) (followers_of given is cmd a) stop left → (text : List ℕ) × AsksOnce given nothing_besides is cmd text (or_refusal (refusal_in a) stop) left
 asks-once given is cmd a stop left right leads = (_, record { answer = a; right = right; stop = stop; left = leads; line = refl; refused = refl })
 
 some-asked : (given : Setup) (is : List Input) (cmd : Cmd) → (refusal : Option Refusal) × (left : List Input) × (text : List ℕ) × AsksOnce given nothing_besides is cmd text refusal left
 some-asked given is cmd =
     let a : (a : Answer) × IsRight given.plan is cmd a = some-right given is cmd in
     let after : List Input = remaining_after given.plan is cmd a.0 in
-    let next : Option Input = follower_of given is cmd a.0 in
+    let next : List Input = followers_of given is cmd a.0 in
     let f : (stop : Option Refusal) × (left : List Input) × Leads given after next stop left = some-leads given after next in
     let asked : (text : List ℕ) × AsksOnce given nothing_besides is cmd text (or_refusal (refusal_in a.0) f.0) f.1 = asks-once given is cmd a.0 f.0 f.1 a.1 f.2 in
     (_, _, asked.0, asked.1)
@@ -82,21 +82,26 @@ nothing-before given is cmd Took right = absurd right
 nothing-before given is cmd Moved right = refl
 nothing-before given is cmd a right = refl
 
-nothing-behind : (given : Setup) (is : List Input) (next : Option Input) (stop : Option Refusal) → trail nothing_besides.tells given is next stop ≡ []
-nothing-behind given is (Some i) None = refl
-nothing-behind given is next stop = refl
+nothing-behind : (given : Setup) (is next left : List Input) → trail nothing_besides.tells given is next left ≡ []
+nothing-behind given is [] left = refl
+nothing-behind given is (i ∷ next) left = go (nat_lt (length is) (length left)) (nothing-behind given (i ∷ is) next left)
+  where
+    go : (b : Bool) → trail nothing_besides.tells given (i ∷ is) next left ≡ []
+        → (if b then news nothing_besides.tells given is i ++ trail nothing_besides.tells given (i ∷ is) next left else []) ≡ []
+    go true later = later
+    go false later = refl
 
 plain-once : (given : Setup) (is : List Input) (cmd : Cmd) (text : List ℕ) (refusal : Option Refusal) (new : List Input) → AsksOnce given nothing_besides is cmd text refusal new → Asked given is cmd text new
 plain-once given is cmd text refusal new o =
     let after : List Input = remaining_after given.plan is cmd o.answer in
-    let next : Option Input = follower_of given is cmd o.answer in
+    let next : List Input = followers_of given is cmd o.answer in
     record {
       answer = o.answer;
       right = o.right;
       stop = o.stop;
       left = o.left;
       line = o.line
-          ∙ (λ j. (nothing-before given is cmd o.answer o.right j ++ nothing-behind given after next o.stop j) ++ (with_feed (told given.is_wide cmd o.answer (replay given.plan after)) ++ refused_after [] o.stop));
+          ∙ (λ j. (nothing-before given is cmd o.answer o.right j ++ nothing-behind given after next new j) ++ (with_feed (told given.is_wide cmd o.answer (replay given.plan after)) ++ refused_after [] o.stop));
     }
 
 plain-more : (stop refusal : Option Refusal) (rest : List ℕ) (left new : List Input) (More Less : Type 0) → (More → Less) → GoesUnless stop More ((rest ≡ []) × (refusal ≡ stop) × (new ≡ left))
@@ -116,7 +121,7 @@ plain-ticks given (suc n) is text refusal new (inl t) =
         right = t.3.right;
         leads = t.3.leads;
         line = t.3.line
-            ∙ ap (λ (v : List ℕ). v ++ (with_feed (line_in given.is_wide (replay given.plan after)) ++ (refused_after [] t.1 ++ t.0))) (nothing-behind given after (follower given is (next_tick given is)) t.1);
+            ∙ ap (λ (v : List ℕ). v ++ (with_feed (line_in given.is_wide (replay given.plan after)) ++ (refused_after [] t.1 ++ t.0))) (nothing-behind given after (followers given is (next_tick given is)) t.2);
       },
       plain-more t.1 refusal t.0 t.2 new (TakesTicks given nothing_besides t.2 n t.0 refusal new) (Steps given t.2 n t.0 new) (λ more. plain-ticks given n t.2 t.0 refusal new more) t.4,
     )

@@ -20,7 +20,7 @@ use Rattle.tsb_command_text.specs.Readings.{reading}
 use Rattle.tsb_lines.specs.Lines.{lines_of, split, ended, kept, onto_first, without_return, HasNoFeed}
 use Rattle.tsb_lines.proofs.KeptLemmas.{feedless-kept, kept-tells}
 use Rattle.tsb_lines.proofs.LineLemmas.{length-return}
-use Rattle.tsb_text.specs.Answers.{Answers, Asked, GoesUnless, Leads, Setup, Steps, follower, follower_of, next_tick}
+use Rattle.tsb_text.specs.Answers.{Answers, Asked, GoesUnless, Leads, Setup, Steps, followers, followers_of, next_tick}
 use Rattle.tsb_text.specs.Replies.{laid}
 use Rattle.tsb_text.specs.Text.{GoesOn, Says, IsAnswered, IsText}
 use Rattle.tsb_bench.proofs.tsb_step.RefusalLemmas.{refuses}
@@ -36,10 +36,12 @@ right-input given is i = at (verdict (replay given.plan is) i) refl
     at (Some x) e = inr (x, refuses (replay given.plan is) i x e)
 
 -- what follows an input is taken or refused, if something does
-pub some-leads : (given : Setup) (is : List Input) (next : Option Input) → (stop : Option Refusal) × (left : List Input) × Leads given is next stop left
-some-leads given is None = (None, is, (refl, refl))
-some-leads given is (Some i) = elim (right-input given is i) [
-  | inl took ↦ (None, i ∷ is, inl (took, refl, refl))
+pub some-leads : (given : Setup) (is next : List Input) → (stop : Option Refusal) × (left : List Input) × Leads given is next stop left
+some-leads given is [] = (None, is, (refl, refl))
+some-leads given is (i ∷ next) = elim (right-input given is i) [
+  | inl took ↦
+      (let rest : (stop : Option Refusal) × (left : List Input) × Leads given (i ∷ is) next stop left = some-leads given (i ∷ is) next in
+      (rest.0, rest.1, inl (took, rest.2)))
   | inr refused ↦ (Some refused.0, is, inr (record { why = refused.0; right = refused.1; refused = refl; left = refl }))
 ]
 
@@ -54,7 +56,7 @@ some-steps given zero is = ([], is, (refl, refl))
 some-steps given (suc n) is = elim (right-input given is (next_tick given is)) [
   | inl took ↦
       let after : List Input = next_tick given is ∷ is in
-      let next : Option Input = follower given is (next_tick given is) in
+      let next : List Input = followers given is (next_tick given is) in
       let f : (stop : Option Refusal) × (left : List Input) × Leads given after next stop left = some-leads given after next in
       let rest : (text : List ℕ) × (new : List Input) × GoesUnless f.0 (Steps given f.1 n text new) ((text ≡ []) × (new ≡ f.1)) = more-steps given n f.0 f.1 (some-steps given n f.1) in
       (_, rest.1, inl (rest.0, f.0, f.1, record { right = took; leads = f.2; line = refl }, rest.2))
@@ -93,7 +95,7 @@ asked : (given : Setup) (is : List Input) (cmd : Cmd) → (text : List ℕ) × (
 asked given is cmd =
     let a : (a : Answer) × IsRight given.plan is cmd a = some-right given is cmd in
     let after : List Input = remaining_after given.plan is cmd a.0 in
-    let next : Option Input = follower_of given is cmd a.0 in
+    let next : List Input = followers_of given is cmd a.0 in
     let f : (stop : Option Refusal) × (left : List Input) × Leads given after next stop left = some-leads given after next in
     (_, f.1, record { answer = a.0; right = a.1; stop = f.0; left = f.2; line = refl })
 

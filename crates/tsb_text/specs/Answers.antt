@@ -1,5 +1,6 @@
--- What a session answers to a command, over the inputs that were not undone. Where the schedule of the plan acts, a
--- pattern follows each input by which another action comes into force: it is an input as if an operator had given it.
+-- What a session answers to a command, over the inputs that were not undone. Where the schedule of the plan acts, inputs
+-- follow each one by which another action comes into force: a pattern, and the arrows that are omitted where others are.
+-- They are inputs as if an operator had given them.
 use Rattle.std.specs.Prelude.{◌≡◌, ◌⊎◌, ℕ, zero, suc, ◌+◌, Bool, if◌then◌else◌, List, [], ◌∷◌, ◌++◌, Option, Some, None, option_map, codes}
 use Rattle.tsb_bench.specs.tsb_history.declared.kinds.Kind.{Kind}
 use Rattle.tsb_bench.specs.tsb_history.declared.kinds.Kind.TheVariants as kinds
@@ -15,14 +16,14 @@ use Rattle.tsb_bench.specs.tsb_machine.declared.commands.Answer.TheVariants.{Too
 use Rattle.tsb_bench.specs.tsb_step.declared.inputs.Input.{Input}
 use Rattle.tsb_bench.specs.tsb_step.declared.inputs.Input.TheVariants as inputs
 use Rattle.tsb_bench.specs.tsb_step.Play.{Cmd, IsRight, remaining_after}
-use Rattle.tsb_bench.specs.tsb_step.Following.{following}
+use Rattle.tsb_bench.specs.tsb_step.Following.{followers as all_followers}
 use Rattle.tsb_bench.specs.tsb_step.Runs.{replay}
 use Rattle.tsb_bench.specs.tsb_step.Signs.{display, local, stage}
 use Rattle.tsb_bench.specs.tsb_step.State.{State}
 use Rattle.tsb_display_text.specs.Line.{line_of, tick_field}
 use Rattle.tsb_display_text.specs.Line as shown
 use Rattle.tsb_command_text.specs.declared.command.Command.{Command}
-use Rattle.tsb_command_text.specs.declared.command.Command.TheVariants.{Step, Back, Seek, Undo, Show, Quit, When, Begin, Set, Verify, Commit, Abort, Pattern, Preempt, Fault, Reset, Clock}
+use Rattle.tsb_command_text.specs.declared.command.Command.TheVariants.{Step, Back, Seek, Undo, Show, Quit, When, Begin, Set, Verify, Commit, Abort, Pattern, Preempt, Fault, Reset, Clock, Omit}
 use Rattle.tsb_log_text.specs.declared.log.LogRow.{LogRow}
 use Rattle.tsb_log_text.specs.Logs.{row_at}
 use Rattle.tsb_dialog.specs.Said.{with_feed}
@@ -62,6 +63,7 @@ kind_name kinds.Verify = codes "verify"
 kind_name kinds.Commit = codes "commit"
 kind_name kinds.Abort = codes "abort"
 kind_name kinds.Clock = codes "clock"
+kind_name kinds.Omit = codes "omit"
 
 -- it names the station that owns the desk
 abbrev pub busy_line : ℕ → List ℕ
@@ -113,27 +115,28 @@ told is_wide cmd (Changed tick) s = when_line tick
 -- ## Commands
 -- Inputs are piled up, the newest first, and the state is that of their replay.
 
--- what follows this input, which was taken
-abbrev pub follower : Setup → List Input → Input → Option Input
-follower given is i = if given.acts then following (replay given.plan is) (replay given.plan (i ∷ is)) else None
+-- what follows this input, which was taken, in order
+abbrev pub followers : Setup → List Input → Input → List Input
+followers given is i = if given.acts then all_followers (replay given.plan is) (replay given.plan (i ∷ is)) else []
 
 -- what follows what was asked and answered so
-abbrev pub follower_of : Setup → List Input → Cmd → Answer → Option Input
-follower_of given is (asks.Apply i) Took = follower given is i
-follower_of given is cmd a = None
+abbrev pub followers_of : Setup → List Input → Cmd → Answer → List Input
+followers_of given is (asks.Apply i) Took = followers given is i
+followers_of given is cmd a = []
 
--- what follows is refused for a right reason, and leaves all as it was
+-- an input that follows is refused for a right reason, and leaves all as it was
 pub record Fails (given : Setup) (is : List Input) (i : Input) (stop : Option Refusal) (new : List Input) : Type 0 where
   pub why : Refusal
   pub right : IsRight given.plan is (asks.Apply i) (Refused why)
   pub refused : stop ≡ Some why
   pub left : new ≡ is
 
--- what follows is taken, if something does, and leaves these inputs; or it is refused for this reason
-abbrev pub Leads : Setup → List Input → Option Input → Option Refusal → List Input → Type 0
-Leads given is None stop new = (stop ≡ None) × (new ≡ is)
-Leads given is (Some i) stop new =
-    (IsRight given.plan is (asks.Apply i) Took × (stop ≡ None) × (new ≡ i ∷ is)) ⊎ Fails given is i stop new
+-- what follows is taken, one after another, and leaves these inputs; or one is refused for this reason, and no more is
+-- taken
+abbrev pub Leads : Setup → List Input → List Input → Option Refusal → List Input → Type 0
+Leads given is [] stop new = (stop ≡ None) × (new ≡ is)
+Leads given is (i ∷ next) stop new =
+    (IsRight given.plan is (asks.Apply i) Took × Leads given (i ∷ is) next stop new) ⊎ Fails given is i stop new
 
 -- what is said behind an answer where what follows was refused, and before that
 abbrev pub refused_after : List ℕ → Option Refusal → List ℕ
@@ -150,7 +153,7 @@ pub record Asked (given : Setup) (is : List Input) (cmd : Cmd) (text : List ℕ)
   pub answer : Answer
   pub right : IsRight given.plan is cmd answer
   pub stop : Option Refusal
-  pub left : Leads given (remaining_after given.plan is cmd answer) (follower_of given is cmd answer) stop new
+  pub left : Leads given (remaining_after given.plan is cmd answer) (followers_of given is cmd answer) stop new
   pub line : text ≡ with_feed (told given.is_wide cmd answer (replay given.plan (remaining_after given.plan is cmd answer))) ++ refused_after [] stop
 
 -- the next tick, with the log's row
@@ -161,7 +164,7 @@ next_tick given is = inputs.Tick (row_at given.log ((replay given.plan is).now +
 -- follows, and then this
 pub record Ticked (given : Setup) (is : List Input) (text rest : List ℕ) (stop : Option Refusal) (left : List Input) : Type 0 where
   pub right : IsRight given.plan is (asks.Apply (next_tick given is)) Took
-  pub leads : Leads given (next_tick given is ∷ is) (follower given is (next_tick given is)) stop left
+  pub leads : Leads given (next_tick given is ∷ is) (followers given is (next_tick given is)) stop left
   pub line : text ≡ with_feed (line_in given.is_wide (replay given.plan (next_tick given is ∷ is))) ++ (refused_after [] stop ++ rest)
 
 -- the tick is refused, and leaves all as it was. Out of memory the bench may refuse any tick.
@@ -201,3 +204,4 @@ Answers given is (Preempt number on) text new = Asked given is (asks.Apply (inpu
 Answers given is (Fault lamp) text new = Asked given is (asks.Apply (inputs.Fault lamp)) text new
 Answers given is Reset text new = Asked given is (asks.Apply inputs.Reset) text new
 Answers given is (Clock time) text new = Asked given is (asks.Apply (inputs.Clock time)) text new
+Answers given is (Omit list) text new = Asked given is (asks.Apply (inputs.Omit list)) text new

@@ -18,6 +18,7 @@ use Rattle.tsb_text.specs.recording.Along.{telling}
 use Rattle.tsb_text.specs.recording.Told.{Stored, Telling}
 use Rattle.tsb_log_text.specs.Logs.{row_at}
 use Rattle.tsb_bench.specs.tsb_step.declared.inputs.Input.TheVariants.{Tick}
+use Rattle.tsb_bench.specs.tsb_step.declared.inputs.Input.TheVariants as inputs
 use Rattle.tsb_lines.specs.declared.writes.WriteError.{WriteError}
 use Rattle.tsb_log_text.specs.declared.log.LogRow.{LogRow}
 use Rattle.tsb_objects.specs.tsb_plan.Plan.{Plan}
@@ -43,7 +44,7 @@ pub record OnCourse : Type 0 where
   pub news : List Event
   pub acts : Bool
   pub is_wide : Bool
-  pub next : Option Input
+  pub next : List Input
 
 -- whether inputs tell their events
 abbrev pub tells_in : Mode → Bool
@@ -134,22 +135,40 @@ Took (Err e) given log course is i = IsRight given.plan is (Apply i) (answers.Re
 abbrev pub FollowsNone : Held → Input → Type 0
 FollowsNone bench i = following (state_of bench) (step (state_of bench) i) ≡ None
 
--- why a call was refused, if it was
-abbrev pub stop_of : {T : Type 0} → Result T Refusal → Option Refusal
-stop_of (Ok x) = None
-stop_of (Err e) = Some e
+-- what is yet to be taken: a pattern, and then a list of arrows that are omitted
+abbrev pub next_in : Option ℕ → Option ℕ → List Input
+next_in None None = []
+next_in None (Some list) = inputs.Omit list ∷ []
+next_in (Some n) None = inputs.Pattern n ∷ []
+next_in (Some n) (Some list) = inputs.Pattern n ∷ inputs.Omit list ∷ []
 
--- whether something has followed; its events are then those of the newest input
-abbrev pub TellsNext : Result Bool Refusal → Setup → OnCourse → List Input → Option Input → Type 0
-TellsNext (Ok done) given course is None = done ≡ false
-TellsNext (Ok done) given course is (Some i) = (done ≡ true)
-    × (tells_in course.mode ≡ true → course.news ≡ events_of (usual_after (last_row is)) (replay given.plan is) i)
-TellsNext (Err e) given course is next = Unit {0}
+-- an input that follows by itself: a pattern, or a list of arrows that are omitted
+abbrev pub IsFollower : Input → Type 0
+IsFollower (inputs.Pattern n) = Unit {0}
+IsFollower (inputs.Omit list) = Unit {0}
+IsFollower i = ⊥
 
--- what follows was taken, if something does; or it was refused, and nothing has changed
-abbrev pub Followed : Result Bool Refusal → Setup → List LogRow → Option Input → OnCourse → List Input → Type 0
-Followed result given log next course is =
-    (left : List Input) × Leads given is next (stop_of result) left × Stands given log course left × TellsNext result given course is next
+-- the first of what follows was taken out, if something does
+abbrev pub IsPopped : Option Input → (old new : List Input) → Type 0
+IsPopped None old new = (old ≡ []) × (new ≡ [])
+IsPopped (Some i) old new = (old ≡ i ∷ new) × IsFollower i
+
+-- what is yet to be taken once the first was: the rest; nothing more where it was refused
+abbrev pub NextAfter : Result Bool Refusal → (old new : List Input) → Type 0
+NextAfter (Ok done) [] new = (done ≡ false) × (new ≡ [])
+NextAfter (Ok done) (i ∷ next) new = (done ≡ true) × (new ≡ next)
+NextAfter (Err e) old new = new ≡ []
+
+-- the first of what follows was taken, if something does; or it was refused, and nothing has changed
+abbrev pub Followed : Result Bool Refusal → Setup → List LogRow → List Input → OnCourse → List Input → Type 0
+Followed (Ok done) given log [] course is = Stands given log course is
+Followed (Ok done) given log (i ∷ next) course is = Took (Ok tt) given log course is i
+Followed (Err e) given log [] course is = ⊥
+Followed (Err e) given log (i ∷ next) course is = Took (Err e) given log course is i
+
+-- all that follows was taken, one after another, up to one that was refused
+abbrev pub FollowedAll : Option Refusal → Setup → List LogRow → List Input → OnCourse → List Input → Type 0
+FollowedAll stop given log next course is = (left : List Input) × Leads given is next stop left × Stands given log course left
 
 -- the bench was asked, and answered right; an input that was taken has told its events
 pub record Answered (given : Setup) (log : List LogRow) (course : OnCourse) (is : List Input) (cmd : Cmd) (answer : Answer) : Type 0 where

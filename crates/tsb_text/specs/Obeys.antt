@@ -1,5 +1,5 @@
 -- What a command comes to where more may be said than a session says: the events of inputs, and the command itself.
-use Rattle.std.specs.Prelude.{◌≡◌, ◌⊎◌, ℕ, zero, suc, List, [], ◌∷◌, ◌++◌, Bool, false, Option, Some, None, codes, if◌then◌else◌}
+use Rattle.std.specs.Prelude.{◌≡◌, ◌⊎◌, ℕ, zero, suc, length, nat_lt, List, [], ◌∷◌, ◌++◌, Bool, false, Option, Some, None, codes, if◌then◌else◌}
 use Rattle.std.specs.Fmt.{decimal}
 use Rattle.tsb_bench.specs.tsb_machine.declared.commands.MachineCommand.TheVariants as asks
 use Rattle.tsb_bench.specs.tsb_machine.declared.commands.Answer.{Answer}
@@ -15,7 +15,7 @@ use Rattle.tsb_objects.specs.tsb_types.declared.event.Event.{Event}
 use Rattle.tsb_objects.specs.tsb_types.declared.refusal.Refusal.{Refusal}
 use Rattle.tsb_text.specs.declared.task.Task.{Task}
 use Rattle.tsb_text.specs.declared.task.Task.TheVariants.{Ticks, Show, Quit, Ask}
-use Rattle.tsb_text.specs.Answers.{GoesUnless, Leads, Setup, follower, follower_of, line_in, next_tick, refused_after, refused_line, told}
+use Rattle.tsb_text.specs.Answers.{GoesUnless, Leads, Setup, followers, followers_of, line_in, next_tick, refused_after, refused_line, told}
 
 -- whether inputs tell their events, and what stands before an answer that is no display line
 pub record Besides : Type 0 where
@@ -45,10 +45,11 @@ if_told tells es = if tells then events_text es else []
 abbrev pub news : Bool → Setup → List Input → Input → List ℕ
 news tells given is i = if_told tells (events_of (usual_after (last_row is)) (replay given.plan is) i)
 
--- the lines of the events of what follows, if something does and it was not refused
-abbrev pub trail : Bool → Setup → List Input → Option Input → Option Refusal → List ℕ
-trail tells given is (Some i) None = news tells given is i
-trail tells given is next stop = []
+-- the lines of the events of what follows, up to what these inputs have that are left
+abbrev pub trail : Bool → Setup → List Input → List Input → List Input → List ℕ
+trail tells given is [] left = []
+trail tells given is (i ∷ next) left =
+    if nat_lt (length is) (length left) then news tells given is i ++ trail tells given (i ∷ is) next left else []
 
 -- ## Commands
 -- Inputs are piled up, the newest first, and the state is that of their replay.
@@ -75,16 +76,16 @@ or_refusal (Some e) stop = Some e
 or_refusal None stop = stop
 
 -- so of what follows what was asked and answered so
-abbrev pub trail_of : Bool → Setup → List Input → Cmd → Answer → Option Refusal → List ℕ
-trail_of tells given is cmd answer stop = trail tells given (remaining_after given.plan is cmd answer) (follower_of given is cmd answer) stop
+abbrev pub trail_of : Bool → Setup → List Input → Cmd → Answer → List Input → List ℕ
+trail_of tells given is cmd answer left = trail tells given (remaining_after given.plan is cmd answer) (followers_of given is cmd answer) left
 
 -- a command that asks the bench once: it is answered by what tells a right answer, and what follows is taken
 pub record AsksOnce (given : Setup) (besides : Besides) (is : List Input) (cmd : Cmd) (text : List ℕ) (refusal : Option Refusal) (new : List Input) : Type 0 where
   pub answer : Answer
   pub right : IsRight given.plan is cmd answer
   pub stop : Option Refusal
-  pub left : Leads given (remaining_after given.plan is cmd answer) (follower_of given is cmd answer) stop new
-  pub line : text ≡ (before_line besides.echo answer (news_of besides.tells given is cmd) ++ trail_of besides.tells given is cmd answer stop)
+  pub left : Leads given (remaining_after given.plan is cmd answer) (followers_of given is cmd answer) stop new
+  pub line : text ≡ (before_line besides.echo answer (news_of besides.tells given is cmd) ++ trail_of besides.tells given is cmd answer new)
       ++ (with_feed (told given.is_wide cmd answer (replay given.plan (remaining_after given.plan is cmd answer))) ++ refused_after besides.echo stop)
   pub refused : refusal ≡ or_refusal (refusal_in answer) stop
 
@@ -92,8 +93,8 @@ pub record AsksOnce (given : Setup) (besides : Besides) (is : List Input) (cmd :
 -- tick, a refusal of what follows, and then this
 pub record Ticked (given : Setup) (besides : Besides) (is : List Input) (text rest : List ℕ) (stop : Option Refusal) (left : List Input) : Type 0 where
   pub right : IsRight given.plan is (asks.Apply (next_tick given is)) Took
-  pub leads : Leads given (next_tick given is ∷ is) (follower given is (next_tick given is)) stop left
-  pub line : text ≡ (news besides.tells given is (next_tick given is) ++ trail besides.tells given (next_tick given is ∷ is) (follower given is (next_tick given is)) stop)
+  pub leads : Leads given (next_tick given is ∷ is) (followers given is (next_tick given is)) stop left
+  pub line : text ≡ (news besides.tells given is (next_tick given is) ++ trail besides.tells given (next_tick given is ∷ is) (followers given is (next_tick given is)) left)
       ++ (with_feed (line_in given.is_wide (replay given.plan (next_tick given is ∷ is))) ++ (refused_after besides.echo stop ++ rest))
 
 -- the tick is refused, and leaves all as it was. Out of memory the bench may refuse any tick.

@@ -3,7 +3,7 @@ use Rattle.tsb_bench.specs.tsb_machine.declared.commands.MachineCommand.TheVaria
 use Rattle.tsb_bench.specs.tsb_step.Play.{Cmd}
 use Rattle.tsb_bench.specs.tsb_step.declared.inputs.Input.TheVariants as inputs
 use Rattle.tsb_command_text.specs.declared.command.Command.{Command}
-use Rattle.tsb_command_text.specs.declared.command.Command.TheVariants.{Step, Back, Seek, Undo, Show, Quit, When, Begin, Set, Verify, Commit, Abort, Pattern, Preempt, Fault, Reset, Clock}
+use Rattle.tsb_command_text.specs.declared.command.Command.TheVariants.{Step, Back, Seek, Undo, Show, Quit, When, Begin, Set, Verify, Commit, Abort, Pattern, Preempt, Fault, Reset, Clock, Omit}
 use Rattle.tsb_text.specs.kept.Kept.{IsNoTick}
 use Rattle.tsb_text.specs.declared.task.Task.{Task}
 use Rattle.tsb_text.specs.declared.task.Task.TheVariants as tasks
@@ -29,6 +29,7 @@ task_of (Preempt number on) = tasks.Ask (asks.Apply (inputs.Switch number on))
 task_of (Fault lamp) = tasks.Ask (asks.Apply (inputs.Fault lamp))
 task_of Reset = tasks.Ask (asks.Apply inputs.Reset)
 task_of (Clock time) = tasks.Ask (asks.Apply (inputs.Clock time))
+task_of (Omit list) = tasks.Ask (asks.Apply (inputs.Omit list))
 
 -- the bench is asked to take no tick
 abbrev pub AppliesNoTick : Cmd → Type 0

@@ -7,11 +7,11 @@ use Rattle.tsb_text.specs.Answers.{Leads, Setup, refused_after}
 use Rattle.tsb_text.specs.Obeys.{Besides, trail}
 
 -- what follows is taken where these inputs remain, and its events are these lines; or it is refused
-pub record Trailing (given : Setup) (tells : Bool) (is : List Input) (next : Option Input) (text : List ℕ) (refusal : Option Refusal) (new : List Input) : Type 0 where
+pub record Trailing (given : Setup) (tells : Bool) (is next : List Input) (text : List ℕ) (refusal : Option Refusal) (new : List Input) : Type 0 where
   pub leads : Leads given is next refusal new
-  pub told : text ≡ trail tells given is next refusal
+  pub told : text ≡ trail tells given is next new
 
 -- so after the events of an input; then comes the line that answers it
-pub record Trails (given : Setup) (besides : Besides) (is : List Input) (next : Option Input) (news line : List ℕ) (text : List ℕ) (refusal : Option Refusal) (new : List Input) : Type 0 where
+pub record Trails (given : Setup) (besides : Besides) (is next : List Input) (news line : List ℕ) (text : List ℕ) (refusal : Option Refusal) (new : List Input) : Type 0 where
   pub leads : Leads given is next refusal new
-  pub told : text ≡ (news ++ trail besides.tells given is next refusal) ++ (with_feed line ++ refused_after besides.echo refusal)
+  pub told : text ≡ (news ++ trail besides.tells given is next new) ++ (with_feed line ++ refused_after besides.echo refusal)

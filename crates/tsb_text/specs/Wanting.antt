@@ -1,5 +1,5 @@
 -- When there is no memory for an input of a course.
-use Rattle.std.specs.Prelude.{◌⊎◌, ◌<◌, ◌+◌, ℕ, Option, Some}
+use Rattle.std.specs.Prelude.{◌⊎◌, ◌<◌, ◌+◌, ℕ, List, [], ◌∷◌}
 use Rattle.tsb_bench.specs.Cabinet.{most_cells}
 use Rattle.tsb_bench.specs.Held.{state_of}
 use Rattle.tsb_bench.specs.tsb_history.History.{record_size}
@@ -8,7 +8,7 @@ use Rattle.tsb_bench.specs.tsb_step.Events.{events_of}
 use Rattle.tsb_bench.specs.tsb_step.Play.{Cmd}
 use Rattle.tsb_bench.specs.tsb_step.Step.{kind_of}
 use Rattle.tsb_bench.specs.tsb_step.declared.inputs.Input.{Input}
-use Rattle.tsb_bench.specs.tsb_step.declared.inputs.Input.TheVariants.{Tick, Pattern}
+use Rattle.tsb_bench.specs.tsb_step.declared.inputs.Input.TheVariants.{Tick, Pattern, Omit}
 use Rattle.tsb_log_text.specs.Logs.{row_at}
 use Rattle.tsb_text.specs.declared.course.Mode.{Mode}
 use Rattle.tsb_text.specs.declared.course.Mode.TheVariants.{Plain, Keeping, Telling, Recording}
@@ -39,17 +39,23 @@ abbrev pub WantsTo : OnCourse → Cmd → Type 0
 WantsTo course (Apply i) = IsWanting course i
 WantsTo course cmd = ⊥
 
--- there is no memory for what follows an input, if something does: a pattern
-abbrev pub WantsAfter : OnCourse → Option Input → Type 0
-WantsAfter course (Some (Pattern n)) = IsWanting course (Pattern n)
-WantsAfter course next = ⊥
+-- there is no memory for a pattern, or for a list of arrows that are omitted
+abbrev pub WantsFollower : OnCourse → Type 0
+WantsFollower course = ((n : ℕ) × IsWanting course (Pattern n)) ⊎ ((list : ℕ) × IsWanting course (Omit list))
 
--- there is no memory for a pattern
-abbrev pub WantsPattern : OnCourse → Type 0
-WantsPattern course = (n : ℕ) × IsWanting course (Pattern n)
+-- there is no memory for an input that follows: a pattern, or arrows that are omitted
+abbrev pub WantsOne : OnCourse → Input → Type 0
+WantsOne course (Pattern n) = IsWanting course (Pattern n)
+WantsOne course (Omit list) = IsWanting course (Omit list)
+WantsOne course i = ⊥
 
--- there is no memory for an input that is asked: for the next tick, or for another input; or for a pattern that follows
+-- there is no memory for one of the inputs that follow
+abbrev pub WantsAfter : OnCourse → List Input → Type 0
+WantsAfter course [] = ⊥
+WantsAfter course (i ∷ next) = WantsOne course i ⊎ WantsAfter course next
+
+-- there is no memory for an input that is asked: for the next tick, or for another input; or for one that follows
 abbrev pub WantsFor : OnCourse → Task → Type 0
-WantsFor course (Ticks n) = IsWanting course (tick_of course) ⊎ WantsPattern course
-WantsFor course (Ask cmd) = WantsTo course cmd ⊎ WantsPattern course
+WantsFor course (Ticks n) = IsWanting course (tick_of course) ⊎ WantsFollower course
+WantsFor course (Ask cmd) = WantsTo course cmd ⊎ WantsFollower course
 WantsFor course task = ⊥

@@ -1,6 +1,6 @@
 //! Answers to commands.
 
-ghost use Rattle.std.specs.Prelude.{◌≡◌, ◌⊎◌, ◌++◌, List, None, Ok, OnOk, Some, false};
+ghost use Rattle.std.specs.Prelude.{[], ◌≡◌, ◌⊎◌, ◌++◌, List, None, Ok, OnOk, Some, false};
 ghost use Rattle.tsb_bench.specs.tsb_step.declared.inputs.Input.{Input as InputValue};
 ghost use Rattle.tsb_bench.specs.Held.{state_of};
 ghost use Rattle.tsb_log_text.specs.declared.log.LogRow.{LogRow};
@@ -9,7 +9,7 @@ ghost use Rattle.tsb_text.specs.Obeyed.{AsksNext, Done, Stands, besides_of, news
 ghost use Rattle.tsb_text.specs.Obeys.{AsksOnce, Obeys, TakesTicks, before_line, refusal_in};
 ghost use Rattle.tsb_text.specs.Tasks.{task_of};
 ghost use Rattle.tsb_text.specs.Trails.{Trailing, Trails};
-ghost use Rattle.tsb_text.specs.Wanting.{IsWanting, WantsAfter, WantsFor, WantsPattern, WantsTo, tick_of};
+ghost use Rattle.tsb_text.specs.Wanting.{IsWanting, WantsAfter, WantsFollower, WantsFor, WantsTo, tick_of};
 ghost use Rattle.tsb_objects.specs.tsb_types.declared.refusal.Refusal.TheVariants.{Memory};
 ghost use Rattle.tsb_dialog.specs.Blame.{AfterCalls};
 ghost use Rattle.tsb_dialog.specs.Said.{SaidUntilFault, with_feed};
@@ -66,7 +66,7 @@ fn step<W: Write>(
 ) -> Result<Option<Refusal>, WriteError>
     ensures done { (given : Setup) (log : List LogRow) (inputs : List InputValue) → Stands given log course.old inputs
         → Done result given log course.new (TakesTicks given (besides_of course.old echo.now) inputs ticks) (W.contents writer.old.device) (W.contents writer.new.device) pending.old pending.new }
-    ensures wanting { result ≡ Ok (Some Memory) → IsWanting course.new (tick_of course.new) ⊎ WantsPattern course.new }
+    ensures wanting { result ≡ Ok (Some Memory) → IsWanting course.new (tick_of course.new) ⊎ WantsFollower course.new }
     ensures rows { course.new.rows ≡ course.old.rows }
     ensures mode { course.new.mode ≡ course.old.mode }
     ensures blame { writer.old.failed ≡ false → AfterCalls result writer.new.failed }
@@ -83,7 +83,7 @@ fn step<W: Write>(
     Ok(None)
 }
 
-/// Says the events of a tick, takes what follows it and says its events, and says the display line after the tick.
+/// Says the events of a tick, takes what follows it and says the events of that, and says the display line after the tick.
 /// Where what follows is refused, it says so and gives why.
 fn say_tick<W: Write>(
     course: &mut Course,
@@ -107,7 +107,8 @@ fn say_tick<W: Write>(
     say_if_refused(refusal, echo, pending, writer)
 }
 
-/// Takes what follows the newest input, if something does, and says its events. It gives why it was refused, if it was.
+/// Takes what follows the newest input, one after another, and says the events of each. It gives why one was refused, if it
+/// was.
 pub fn follow<W: Write>(
     course: &mut Course,
     pending: &mut Pending,
@@ -116,19 +117,18 @@ pub fn follow<W: Write>(
     ensures done { (given : Setup) (log : List LogRow) (inputs : List InputValue) → Stands given log course.old inputs
         → Done result given log course.new (Trailing given (tells_in course.old.mode) inputs course.old.next) (W.contents writer.old.device) (W.contents writer.new.device) pending.old pending.new }
     ensures wanting { result ≡ Ok (Some Memory) → WantsAfter course.new course.old.next }
-    ensures next { course.new.next ≡ None }
+    ensures next { OnOk result (course.new.next ≡ []) }
     ensures rows { course.new.rows ≡ course.old.rows }
     ensures mode { course.new.mode ≡ course.old.mode }
     ensures acts { course.new.acts ≡ course.old.acts }
     ensures blame { writer.old.failed ≡ false → AfterCalls result writer.new.failed }
 {
-    match course.follow() {
-        Ok(true) => {
-            course.say_news(pending, writer)?;
-            Ok(None)
+    loop {
+        match course.follow() {
+            Ok(true) => course.say_news(pending, writer)?,
+            Ok(false) => return Ok(None),
+            Err(refusal) => return Ok(Some(refusal)),
         }
-        Ok(false) => Ok(None),
-        Err(refusal) => Ok(Some(refusal)),
     }
 }
 
@@ -176,7 +176,7 @@ fn ask<W: Write>(
 ) -> Result<Option<Refusal>, WriteError>
     ensures done { (given : Setup) (log : List LogRow) (inputs : List InputValue) → Stands given log course.old inputs → AsksNext course.old.mode given inputs command
         → Done result given log course.new (AsksOnce given (besides_of course.old echo.now) inputs command) (W.contents writer.old.device) (W.contents writer.new.device) pending.old pending.new }
-    ensures wanting { result ≡ Ok (Some Memory) → WantsTo course.new command ⊎ WantsPattern course.new }
+    ensures wanting { result ≡ Ok (Some Memory) → WantsTo course.new command ⊎ WantsFollower course.new }
     ensures mode { course.new.mode ≡ course.old.mode }
     ensures rows { course.new.rows ≡ course.old.rows }
     ensures blame { writer.old.failed ≡ false → AfterCalls result writer.new.failed }

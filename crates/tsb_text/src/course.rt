@@ -1,11 +1,9 @@
 //! A bench, with what is kept and told of the inputs that it takes.
-ghost use Rattle.std.specs.Prelude.{◌≡◌, ◌≤◌, ◌+◌, ◌∷◌, Err, IfErr, List, None, OnErr, OnOk, false, length, option_map, true};
+ghost use Rattle.std.specs.Prelude.{◌≡◌, ◌≤◌, ◌+◌, ◌∷◌, [], Err, IfErr, List, OnErr, OnOk, false, length, true};
 ghost use Rattle.tsb_bench.specs.Held.{state_of, whole};
 ghost use Rattle.tsb_bench.specs.tsb_history.History.{Change};
 ghost use Rattle.tsb_bench.specs.tsb_step.Past.{earlier};
-ghost use Rattle.tsb_bench.specs.tsb_step.Following.{action, selects};
 ghost use Rattle.tsb_bench.specs.tsb_step.Step.{last_tick, step};
-ghost use Rattle.tsb_bench.specs.tsb_step.declared.inputs.Input.TheVariants.{Pattern};
 ghost use Rattle.tsb_text.specs.kept.Kept.{with_input};
 ghost use Rattle.tsb_objects.specs.tsb_types.declared.refusal.Refusal.TheVariants.{Memory};
 ghost use Rattle.tsb_bench.specs.tsb_machine.declared.commands.Answer.TheVariants.{Refused};
@@ -17,14 +15,15 @@ ghost use Rattle.tsb_text.specs.recording.Along.{Wants, with_input as with_told}
 ghost use Rattle.tsb_text.specs.recording.Told.{DropsMark, gone_back as told_back, nothing_told};
 ghost use Rattle.tsb_log_text.specs.declared.log.LogRow.{LogRow};
 ghost use Rattle.tsb_text.specs.declared.course.Mode.TheVariants as modes;
-ghost use Rattle.tsb_text.specs.Answers.{Setup, follower, follower_of, line_in, next_tick};
+ghost use Rattle.tsb_text.specs.Answers.{Setup, followers, followers_of, line_in, next_tick};
 ghost use Rattle.tsb_text.specs.Rows.{rows_in};
 ghost use Rattle.tsb_log_text.specs.Logs.{row_at};
-ghost use Rattle.tsb_text.specs.Obeyed.{Answered, AsksNext, Followed, FollowsNone, Forgets, ForgetsNewest, IsNext, Stands, Took, holding, laid, mode_with, news_in};
+ghost use Rattle.tsb_text.specs.Obeyed.{Answered, AsksNext, Followed, FollowsNone, Forgets, ForgetsNewest, IsNext, NextAfter, Stands, Took, holding, laid, mode_with, news_in};
 ghost use Rattle.tsb_text.specs.Wanting.{IsWanting, WantsAfter, WantsTo, tick_of};
 
 use crate::Kept;
 use crate::events::say_events;
+use crate::followers::Followers;
 use crate::lines::make_line;
 use crate::recording::Told;
 use crate::rows::Rows;
@@ -54,7 +53,7 @@ pub enum Mode {
 
 /// A bench, with the rows that its ticks take, what is kept or recorded of the inputs that remain, and the events that the
 /// newest has. Where the schedule of its plan acts, a pattern follows each input by which another action comes into
-/// force: it is an input as any other.
+/// force, and then the arrows that are omitted, where others are: these are inputs as any other.
 #[derive(Drop)]
 pub struct Course<'a> {
     bench: Bench,
@@ -67,19 +66,17 @@ pub struct Course<'a> {
     acts: bool,
     /// Whether display lines are wide.
     is_wide: bool,
-    /// The pattern that follows the newest input, until it is taken.
-    next: Option<u32>,
+    /// What follows the newest input, until it is taken.
+    next: Followers,
 }
 
 impl<'a> Model for Course<'a> {
-    ghost use Rattle.std.specs.Prelude.{option_map};
-    ghost use Rattle.tsb_bench.specs.tsb_step.declared.inputs.Input.TheVariants.{Pattern};
     ghost use Rattle.tsb_text.specs.Obeyed.{OnCourse};
     ghost use Rattle.tsb_text.specs.Rows.{rows_in};
 
     ghost Value = { OnCourse };
 
-    ghost view = { λ a. record { bench = a.bench; rows = rows_in a.rows; kept = a.kept; told = a.told; mode = a.mode; news = a.news.items; acts = a.acts; is_wide = a.is_wide; next = option_map Pattern a.next } };
+    ghost view = { λ a. record { bench = a.bench; rows = rows_in a.rows; kept = a.kept; told = a.told; mode = a.mode; news = a.news.items; acts = a.acts; is_wide = a.is_wide; next = a.next } };
 }
 
 impl<'a> Course<'a> {
@@ -92,7 +89,7 @@ impl<'a> Course<'a> {
         ensures mode { result.mode ≡ mode }
         ensures acts { result.acts ≡ acts }
         ensures wide { result.is_wide ≡ false }
-        ensures next { result.next ≡ None }
+        ensures next { result.next ≡ [] }
     {
         Course {
             bench,
@@ -103,7 +100,7 @@ impl<'a> Course<'a> {
             news: Events::new(),
             acts,
             is_wide: false,
-            next: None,
+            next: Followers::none(),
         }
     }
 
@@ -199,8 +196,8 @@ impl<'a> Course<'a> {
     #[inline(always)]
     pub fn tick(&mut self) -> Result<(), Refusal>
         ensures took { (given : Setup) (log : List LogRow) (inputs : List InputValue) → Stands given log self.old inputs → Took result given log self.new inputs (next_tick given inputs) }
-        ensures next { (given : Setup) (log : List LogRow) (inputs : List InputValue) → Stands given log self.old inputs → OnOk result (self.new.next ≡ follower given inputs (next_tick given inputs)) }
-        ensures none { OnErr result (self.new.next ≡ None) }
+        ensures next { (given : Setup) (log : List LogRow) (inputs : List InputValue) → Stands given log self.old inputs → OnOk result (self.new.next ≡ followers given inputs (next_tick given inputs)) }
+        ensures none { OnErr result (self.new.next ≡ []) }
         ensures wanting { result ≡ Err Memory → IsWanting self.new (tick_of self.new) }
         ensures mode { self.new.mode ≡ self.old.mode }
         ensures rows { self.new.rows ≡ self.old.rows }
@@ -215,8 +212,8 @@ impl<'a> Course<'a> {
     #[inline(always)]
     pub fn take(&mut self, input: Input) -> Result<(), Refusal>
         ensures took { (given : Setup) (log : List LogRow) (inputs : List InputValue) → Stands given log self.old inputs → IsNext self.old.mode given inputs input → Took result given log self.new inputs input }
-        ensures next { (given : Setup) (log : List LogRow) (inputs : List InputValue) → Stands given log self.old inputs → OnOk result (self.new.next ≡ follower given inputs input) }
-        ensures none { OnErr result (self.new.next ≡ None) }
+        ensures next { (given : Setup) (log : List LogRow) (inputs : List InputValue) → Stands given log self.old inputs → OnOk result (self.new.next ≡ followers given inputs input) }
+        ensures none { OnErr result (self.new.next ≡ []) }
         ensures wanting { result ≡ Err Memory → IsWanting self.new input }
         ensures still { OnErr result (whole self.new.bench ≡ whole self.old.bench) }
         ensures mode { self.new.mode ≡ self.old.mode }
@@ -227,7 +224,7 @@ impl<'a> Course<'a> {
         if self.may_follow(&input) {
             return self.take_scheduled(input);
         }
-        self.next = None;
+        self.next = Followers::none();
         self.take_alone(input)
     }
 
@@ -252,8 +249,8 @@ impl<'a> Course<'a> {
     fn take_scheduled(&mut self, input: Input) -> Result<(), Refusal>
         requires acts { self.old.acts ≡ true }
         ensures took { (given : Setup) (log : List LogRow) (inputs : List InputValue) → Stands given log self.old inputs → IsNext self.old.mode given inputs input → Took result given log self.new inputs input }
-        ensures next { (given : Setup) (log : List LogRow) (inputs : List InputValue) → Stands given log self.old inputs → OnOk result (self.new.next ≡ follower given inputs input) }
-        ensures none { OnErr result (self.new.next ≡ None) }
+        ensures next { (given : Setup) (log : List LogRow) (inputs : List InputValue) → Stands given log self.old inputs → OnOk result (self.new.next ≡ followers given inputs input) }
+        ensures none { OnErr result (self.new.next ≡ []) }
         ensures wanting { result ≡ Err Memory → IsWanting self.new input }
         ensures still { OnErr result (whole self.new.bench ≡ whole self.old.bench) }
         ensures mode { self.new.mode ≡ self.old.mode }
@@ -262,31 +259,35 @@ impl<'a> Course<'a> {
         ensures wide { self.new.is_wide ≡ self.old.is_wide }
     {
         let before = self.bench.action();
-        self.next = None;
+        self.next = Followers::none();
         match self.take_alone(input) {
             Ok(()) => {
-                self.next = selected(&self.bench, before);
+                self.next = Followers::after(&self.bench, before);
                 Ok(())
             }
             Err(refusal) => Err(refusal),
         }
     }
 
-    /// Takes what follows the newest input, if something does: `true` where it has.
+    /// Takes the first of what follows the newest input, if something does: `true` where it has, and then more may follow.
+    /// Where it is refused, no more follows.
     pub fn follow(&mut self) -> Result<bool, Refusal>
         ensures followed { (given : Setup) (log : List LogRow) (inputs : List InputValue) → Stands given log self.old inputs → Followed result given log self.old.next self.new inputs }
-        ensures next { self.new.next ≡ None }
+        ensures next { NextAfter result self.old.next self.new.next }
         ensures wanting { result ≡ Err Memory → WantsAfter self.new self.old.next }
         ensures mode { self.new.mode ≡ self.old.mode }
         ensures rows { self.new.rows ≡ self.old.rows }
         ensures acts { self.new.acts ≡ self.old.acts }
         ensures wide { self.new.is_wide ≡ self.old.is_wide }
     {
-        match self.next.take() {
+        match self.next.pop() {
             None => Ok(false),
-            Some(pattern) => match self.take_alone(Input::Pattern(pattern)) {
+            Some(input) => match self.take_alone(input) {
                 Ok(()) => Ok(true),
-                Err(refusal) => Err(refusal),
+                Err(refusal) => {
+                    self.next = Followers::none();
+                    Err(refusal)
+                }
             },
         }
     }
@@ -436,7 +437,7 @@ impl<'a> Course<'a> {
     pub fn answer(&mut self, command: Cmd) -> Answer
         ensures right { (given : Setup) (log : List LogRow) (inputs : List InputValue) → Stands given log self.old inputs → AsksNext self.old.mode given inputs command → Answered given log self.new inputs command result }
         ensures wanting { result ≡ Refused Memory → WantsTo self.new command }
-        ensures next { (given : Setup) (log : List LogRow) (inputs : List InputValue) → Stands given log self.old inputs → self.new.next ≡ follower_of given inputs command result }
+        ensures next { (given : Setup) (log : List LogRow) (inputs : List InputValue) → Stands given log self.old inputs → self.new.next ≡ followers_of given inputs command result }
         ensures mode { self.new.mode ≡ self.old.mode }
         ensures rows { self.new.rows ≡ self.old.rows }
         ensures acts { self.new.acts ≡ self.old.acts }
@@ -448,7 +449,7 @@ impl<'a> Course<'a> {
                 Err(refusal) => Answer::Refused(refusal),
             },
             _ => {
-                self.next = None;
+                self.next = Followers::none();
                 let given = answer(&mut self.bench, command);
                 self.forget(&given);
                 given
@@ -496,17 +497,6 @@ impl<'a> Course<'a> {
             _ => Ok(()),
         }
     }
-}
-
-/// The pattern that follows an input of a bench that has taken it, where this action was in force before.
-fn selected(bench: &Bench, before: Option<u32>) -> Option<u32>
-    ensures { option_map Pattern result ≡ selects (state_of bench.now).plan before (action (state_of bench.now)) }
-{
-    let action = bench.action()?;
-    if before == Some(action) {
-        return None;
-    }
-    Some(bench.plan().selected_by(action))
 }
 
 /// Keeps the newest input no more, which was of this kind. Without it, this tick is in force.

@@ -9,6 +9,7 @@ mod course;
 mod error;
 mod events;
 pub mod faults;
+mod followers;
 pub mod kept;
 mod later;
 mod lines;

@@ -83,6 +83,7 @@ pub(crate) fn undone_line(kind: Kind) -> &'static [u8]
         Kind::Commit => b"undone commit",
         Kind::Abort => b"undone abort",
         Kind::Clock => b"undone clock",
+        Kind::Omit => b"undone omit",
     }
 }
 

@@ -23,7 +23,7 @@ mod recorder;
 mod told;
 
 use crate::recording::faults::fault_line;
-use crate::recording::recorder::carry_out;
+use crate::recording::recorder::{carry_out, follow_all};
 pub use crate::recording::told::{Mark, Told};
 use crate::{
     COMMANDS, Course, LineFault, Mode, OnFault, Rows, SessionError, Stop, fault_of, flow_after,
@@ -151,9 +151,9 @@ fn set_clock(course: &mut Course, clock: Option<ClockTime>) -> Result<(), Sessio
     match clock {
         None => Ok(()),
         Some(time) => match course.take(Input::Clock(time)) {
-            Ok(()) => match course.follow() {
-                Ok(_) => Ok(()),
-                Err(_) => Err(SessionError::Memory),
+            Ok(()) => match follow_all(course) {
+                None => Ok(()),
+                Some(_) => Err(SessionError::Memory),
             },
             Err(_) => Err(SessionError::Memory),
         },

@@ -41,5 +41,6 @@ pub fn task_of(command: Command) -> Task
         Command::Fault(lamp) => Task::Ask(Cmd::Apply(Input::Fault(lamp))),
         Command::Reset => Task::Ask(Cmd::Apply(Input::Reset)),
         Command::Clock(time) => Task::Ask(Cmd::Apply(Input::Clock(time))),
+        Command::Omit(list) => Task::Ask(Cmd::Apply(Input::Omit(list))),
     }
 }

@@ -3,6 +3,7 @@ use Rattle.std.specs.Prelude.{◌≡◌, ℕ, ◌==◌, if◌then◌else◌, tru
 use Rattle.tsb_types.specs.declared.interval.Interval.TheVariants as intervals
 use Rattle.tsb_types.specs.declared.interval.PedestrianInterval.{PedestrianInterval}
 use Rattle.tsb_types.specs.declared.interval.PedestrianInterval.TheVariants as pedestrian_intervals
+use Rattle.tsb_types.specs.declared.lamp.Aspect.TheVariants.{Green, FlashingYellow}
 use Rattle.tsb_types.specs.Lists.{run_from}
 use Rattle.tsb_heads.specs.tsb_plan.declared.object.Object.TheVariants.{PhaseEnabled, PhaseWalk}
 use Rattle.tsb_heads.specs.tsb_plan.Plan.{Plan, empty, with_value, with_values}
@@ -17,7 +18,7 @@ use Rattle.tsb_display_text.specs.Line.{line_of}
 
 -- what a computed line opens
 unfoldable pub opened : Unit {0}
-unfolding run_from two quad heads.plan is_kept_green is_on_yellow has_green_modifier has_yellow_modifier is_on_last_yellow line_of
+unfolding run_from two quad heads.plan heads.arrowed is_kept_green is_on_yellow has_green_modifier has_yellow_modifier is_on_last_yellow line_of
 opened = tt
 
 -- the line at tick n of what the controller shows, with the preempt in service and the local counter
@@ -154,3 +155,18 @@ green_of_12 = refl
 modified : line_at 91 heads.plan through ≡ codes "0000091 RGRRRGRR-------- -D-------------- GR-- 0 ----"
 unfolding opened
 modified = refl
+
+-- ## Overlap 2 flashes yellow, an arrow whose turn is phase 1, and overlap 1, which trails, is green after its phases
+
+arrow_and_trail : line_at 91 heads.arrowed (record (two_in 2 intervals.Green 6 intervals.Green) {
+  light = λ o. if o == 1 then Green else FlashingYellow;
+}) ≡ codes "0000091 RGRRRGRR-------- -D-------------- GP-- 0 ----"
+unfolding opened
+arrow_and_trail = refl
+
+arrow_in_flash : line_at 92 heads.arrowed (record (two_in 2 intervals.Green 6 intervals.Green) {
+  light = λ o. FlashingYellow;
+  tripped = true;
+}) ≡ codes "0000092 FFFFFFFF-------- ---------------- FF-- 0 ----"
+unfolding opened
+arrow_in_flash = refl

@@ -1,7 +1,7 @@
 -- One-line mistakes, each with an example in which it differs from the definition.
 use Rattle.std.specs.Prelude.{◌≡◌, ℕ, ◌+◌, ◌==◌, if◌then◌else◌, ◌∷◌, [], List, map, codes, Option, Some, None, refl}
 use Rattle.tsb_types.specs.declared.lamp.Aspect.{Aspect}
-use Rattle.tsb_types.specs.declared.lamp.Aspect.TheVariants.{Dark, Red, Yellow, Green, FlashingRed}
+use Rattle.tsb_types.specs.declared.lamp.Aspect.TheVariants.{Dark, Red, Yellow, Green, FlashingRed, FlashingYellow}
 use Rattle.tsb_types.specs.declared.lamp.PedestrianAspect.{PedestrianAspect}
 use Rattle.tsb_types.specs.declared.lamp.PedestrianAspect.TheVariants as pedestrian_aspects
 use Rattle.tsb_types.specs.Lists.{run_from}
@@ -27,7 +27,7 @@ clears : map (λ p. pedestrian_letter_swapped (all_walk p)) (run_from 1 16) ≡ 
 unfolding run_from
 clears = refl
 
--- ## A head that flashes red is R
+-- ## A head that flashes is written as a lamp of its colour: red is R, yellow Y
 
 abbrev pub letter_of_lamp : Aspect → ℕ
 letter_of_lamp Dark = 45
@@ -35,12 +35,19 @@ letter_of_lamp Red = 82
 letter_of_lamp Yellow = 89
 letter_of_lamp Green = 71
 letter_of_lamp FlashingRed = 82
+letter_of_lamp FlashingYellow = 89
 
 flashes : letter FlashingRed ∷ [] ≡ codes "F"
 flashes = refl
 
 flashes_not : letter_of_lamp FlashingRed ∷ [] ≡ codes "R"
 flashes_not = refl
+
+arrow : letter FlashingYellow ∷ [] ≡ codes "P"
+arrow = refl
+
+arrow_not : letter_of_lamp FlashingYellow ∷ [] ≡ codes "Y"
+arrow_not = refl
 
 -- ## A head is written at the place before its phase's
 

@@ -26,7 +26,7 @@ use Rattle.tsb_text.specs.tsb_types.declared.lamp.SignalColor.TheVariants as sig
 use Rattle.tsb_text.specs.tsb_types.declared.lamp.PedestrianColor.{PedestrianColor}
 use Rattle.tsb_text.specs.tsb_types.declared.lamp.PedestrianColor.TheVariants as pedestrians
 use Rattle.tsb_step.specs.declared.inputs.Input.{Input}
-use Rattle.tsb_step.specs.declared.inputs.Input.TheVariants.{Tick, Pattern, Switch, Fault, Reset, Begin, Set, Verify, Commit, Abort, Clock}
+use Rattle.tsb_step.specs.declared.inputs.Input.TheVariants.{Tick, Pattern, Switch, Fault, Reset, Begin, Set, Verify, Commit, Abort, Clock, Omit}
 use Rattle.tsb_command_text.specs.Commands.{command_in, command_of_one, command_of_two, command_of_three, command_of_five, preempt_of, set_of}
 use Rattle.tsb_command_text.specs.Lamps.{from_one_to, head_number, lamp_of, station_of, with_both}
 use Rattle.tsb_command_text.specs.Readings.{lines_in, lines_of_two, reading, reading_in}
@@ -153,6 +153,11 @@ unfolding command_of_two lines_of_two
 pattern-read n lt =
     number-line (codes "pattern") n (commands.Pattern n) (omega arith) lt (word-of (codes "pattern") refl (omega arith)) refl refl (ap (option_map commands.Pattern) (number-read n lt))
 
+omit-read : (n : ℕ) → n < 2 ^ 32 → reading (codes "omit " ++ decimal n) ≡ Do (commands.Omit n)
+unfolding command_of_two lines_of_two
+omit-read n lt =
+    number-line (codes "omit") n (commands.Omit n) (omega arith) lt (word-of (codes "omit") refl (omega arith)) refl refl (ap (option_map commands.Omit) (number-read n lt))
+
 begin-read : (n : ℕ) → IsUpTo 4 n → reading (codes "begin " ++ decimal n) ≡ Do (commands.Begin n)
 unfolding command_of_two lines_of_two
 begin-read n h =
@@ -221,6 +226,9 @@ overlap-lamp p signals.Yellow h = head-line 79 p 89 (lamps.Overlap p signals.Yel
 overlap-lamp p signals.Red h = head-line 79 p 82 (lamps.Overlap p signals.Red) (omega (arith, h.1)) (λ e. omega (arith, e)) (λ e. omega (arith, e))
     (ap (λ (o : Option ℕ). with_both lamps.Overlap o (Some signals.Red)) (head-read OVERLAPS p h (omega arith)))
 
+arrow-lamp : (p : ℕ) → IsUpTo OVERLAPS p → reading (codes "fault O" ++ (decimal p ++ codes " P")) ≡ Do (commands.Fault (Some (lamps.Arrow p)))
+arrow-lamp p h = head-line 79 p 80 (lamps.Arrow p) (omega (arith, h.1)) (λ e. omega (arith, e)) (λ e. omega (arith, e)) (ap (option_map lamps.Arrow) (head-read OVERLAPS p h (omega arith)))
+
 pedestrian-lamp : (p : ℕ) (color : PedestrianColor) → IsUpTo 16 p → reading (codes "fault W" ++ (decimal p ++ pedestrian_word color)) ≡ Do (commands.Fault (Some (lamps.Pedestrian p color)))
 pedestrian-lamp p pedestrians.Walk h = head-line 87 p 87 (lamps.Pedestrian p pedestrians.Walk) (omega (arith, h.1)) (λ e. omega (arith, e)) (λ e. omega (arith, e))
     (ap (λ (o : Option ℕ). with_both lamps.Pedestrian o (Some pedestrians.Walk)) (head-read 16 p h (omega arith)))
@@ -232,6 +240,7 @@ pedestrian-lamp p pedestrians.DontWalk h = head-line 87 p 68 (lamps.Pedestrian p
 lamp-read : (lamp : Lamp) → IsLamp lamp → reading (lamp_line lamp) ≡ Do (commands.Fault (Some lamp))
 lamp-read (lamps.Phase p color) h = phase-lamp p color h
 lamp-read (lamps.Overlap p color) h = overlap-lamp p color h
+lamp-read (lamps.Arrow p) h = arrow-lamp p h
 lamp-read (lamps.Pedestrian p color) h = pedestrian-lamp p color h
 
 -- a date and a time of day are words
@@ -304,6 +313,7 @@ behind before n p lt = plain-join before (decimal n) p (number-plain n (omega (a
 lamp-plain : (lamp : Lamp) → IsLamp lamp → are_plain (lamp_line lamp) ≡ true
 lamp-plain (lamps.Phase p color) h = between (codes "fault P") p (signal_word color) refl (omega (arith, h.1)) (signal-plain color)
 lamp-plain (lamps.Overlap p color) h = between (codes "fault O") p (signal_word color) refl (omega (arith, h.1)) (signal-plain color)
+lamp-plain (lamps.Arrow p) h = between (codes "fault O") p (codes " P") refl (omega (arith, h.1)) refl
 lamp-plain (lamps.Pedestrian p color) h = between (codes "fault W") p (pedestrian_word color) refl (omega (arith, h.1)) (aspect-plain color)
 
 set-plain : (s : ℕ) (id : ObjectId) (v : ℕ) → s < 2 ^ 32 → id.index < 2 ^ 32 → v < 2 ^ 32 → are_plain (input_line (Set s id v)) ≡ true
@@ -324,6 +334,7 @@ input-plain (Set s id v) h = set-plain s id v (omega (arith, h.0.1)) h.1 h.2
 input-plain (Verify s) h = behind (codes "verify ") s refl (omega (arith, h.1))
 input-plain (Commit s) h = behind (codes "commit ") s refl (omega (arith, h.1))
 input-plain (Abort s) h = behind (codes "abort ") s refl (omega (arith, h.1))
+input-plain (Omit list) h = behind (codes "omit ") list refl h
 input-plain (Clock time) h =
     plain-join (codes "clock ") (date_text (date_of time) ++ (32 ∷ time_text (time % DAY))) refl
     (plain-join (date_text (date_of time)) (32 ∷ time_text (time % DAY)) (date-plain (date_of time)) (time-plain (time % DAY)))
@@ -346,6 +357,7 @@ input-read (Set s id v) rest h = one-line (input_line (Set s id v)) rest (comman
 input-read (Verify s) rest h = one-line (input_line (Verify s)) rest (commands.Verify s) (input-plain (Verify s) h) (verify-read s h)
 input-read (Commit s) rest h = one-line (input_line (Commit s)) rest (commands.Commit s) (input-plain (Commit s) h) (commit-read s h)
 input-read (Abort s) rest h = one-line (input_line (Abort s)) rest (commands.Abort s) (input-plain (Abort s) h) (abort-read s h)
+input-read (Omit list) rest h = one-line (input_line (Omit list)) rest (commands.Omit list) (input-plain (Omit list) h) (omit-read list h)
 input-read (Clock time) rest h = one-line (input_line (Clock time)) rest (commands.Clock time) (input-plain (Clock time) h) (clock-line time h.0 h.1)
 
 steps-read : (n : ℕ) (rest : List ℕ) → n < 2 ^ 32 → map reading (lines_of (step_text n ++ rest)) ≡ map Do (steps n) ++ map reading (lines_of rest)

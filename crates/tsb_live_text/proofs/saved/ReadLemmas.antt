@@ -17,7 +17,7 @@ use Rattle.tsb_step.specs.declared.inputs.Input.TheVariants.{Tick}
 use Rattle.tsb_step.specs.Runs.{replay}
 use Rattle.tsb_step.proofs.ClearLemmas.{one_later}
 use Rattle.tsb_command_text.specs.Commands.{command_in, command_of_one, command_of_two, command_of_three, command_of_five, on_or_off, preempt_of, set_of, watch_of_one, watch_of_two}
-use Rattle.tsb_command_text.specs.Lamps.{from_one_to, head_number, lamp_of, pedestrian_signal_of, signal_of, station_of, with_both}
+use Rattle.tsb_command_text.specs.Lamps.{from_one_to, head_number, lamp_of, overlap_lamp, pedestrian_signal_of, signal_of, station_of, with_both}
 use Rattle.tsb_command_text.specs.Readings.{lines_in, reading, reading_in}
 use Rattle.tsb_command_text.specs.declared.command.Command.{Command}
 use Rattle.tsb_command_text.specs.declared.command.Command.TheVariants as commands
@@ -75,6 +75,7 @@ up-to-fits most (Some n) = go (nat_le 1 n && nat_le n most) refl
 abbrev IsSound : Command → Type 0
 IsSound (commands.Step n) = n < 2 ^ 32
 IsSound (commands.Pattern n) = n < 2 ^ 32
+IsSound (commands.Omit list) = list < 2 ^ 32
 IsSound (commands.Preempt n on) = n < 2 ^ 32
 IsSound (commands.Fault lamp) = IsFault lamp
 IsSound (commands.Begin s) = IsUpTo 4 s
@@ -104,23 +105,29 @@ two-sound w x =
     (of-if IsSound (bytes_eq w (codes "back")) _ _ (of-map _ IsSound commands.Back (number_of x) (number-fits x) (λ n h. tt))
     (of-if IsSound (bytes_eq w (codes "seek")) _ _ (of-map _ IsSound commands.Seek (number_of x) (number-fits x) (λ n h. tt))
     (of-if IsSound (bytes_eq w (codes "pattern")) _ _ (of-map _ IsSound commands.Pattern (number_of x) (number-fits x) (λ n h. h))
+    (of-if IsSound (bytes_eq w (codes "omit")) _ _ (of-map _ IsSound commands.Omit (number_of x) (number-fits x) (λ n h. h))
     (of-if IsSound (bytes_eq w (codes "when")) _ _ (of-map _ IsSound commands.When (watch_of_one x) (any (watch_of_one x)) (λ n h. tt))
     (of-if IsSound (bytes_eq w (codes "begin")) _ _ (of-map _ IsSound commands.Begin (station_of x) (up-to-fits 4 (number_of x)) (λ n h. h))
     (of-if IsSound (bytes_eq w (codes "verify")) _ _ (of-map _ IsSound commands.Verify (station_of x) (up-to-fits 4 (number_of x)) (λ n h. h))
     (of-if IsSound (bytes_eq w (codes "commit")) _ _ (of-map _ IsSound commands.Commit (station_of x) (up-to-fits 4 (number_of x)) (λ n h. h))
     (of-if IsSound (bytes_eq w (codes "abort")) _ _ (of-map _ IsSound commands.Abort (station_of x) (up-to-fits 4 (number_of x)) (λ n h. h))
-    (of-if IsSound (bytes_eq w (codes "fault")) _ _ (of-if IsSound (bytes_eq x (codes "none")) _ _ tt tt) tt)))))))))
+    (of-if IsSound (bytes_eq w (codes "fault")) _ _ (of-if IsSound (bytes_eq x (codes "none")) _ _ tt tt) tt))))))))))
 
 both-fit : {A B C : Type 0} (P : A → Type 0) (Q : C → Type 0) (f : A → B → C) (a : Option A) (b : Option B) → OfAny P a → ((x : A) (y : B) → P x → Q (f x y)) → OfAny Q (with_both f a b)
 both-fit P Q f None b h to = tt
 both-fit P Q f (Some x) None h to = tt
 both-fit P Q f (Some x) (Some y) h to = to x y h
 
+overlap-fits : (o : Option ℕ) (aspect : List ℕ) → OfAny (IsUpTo OVERLAPS) o → OfAny IsLamp (overlap_lamp o aspect)
+overlap-fits o aspect fits =
+    of-if IsLamp (bytes_eq aspect (codes "P")) _ _ (of-map (IsUpTo OVERLAPS) IsLamp lamps.Arrow o fits (λ p h. h))
+    (both-fit (IsUpTo OVERLAPS) IsLamp lamps.Overlap o (signal_of aspect) fits (λ x y h. h))
+
 lamp-fits : (head aspect : List ℕ) → OfAny IsLamp (lamp_of head aspect)
 lamp-fits [] aspect = tt
 lamp-fits (letter ∷ digits) aspect =
     of-if IsLamp (letter == 80) _ _ (both-fit (IsUpTo 16) IsLamp lamps.Phase (from_one_to 16 (head_number digits)) (signal_of aspect) (up-to-fits 16 (head_number digits)) (λ x y h. h))
-    (of-if IsLamp (letter == 79) _ _ (both-fit (IsUpTo OVERLAPS) IsLamp lamps.Overlap (from_one_to OVERLAPS (head_number digits)) (signal_of aspect) (up-to-fits OVERLAPS (head_number digits)) (λ x y h. h))
+    (of-if IsLamp (letter == 79) _ _ (overlap-fits (from_one_to OVERLAPS (head_number digits)) aspect (up-to-fits OVERLAPS (head_number digits)))
     (of-if IsLamp (letter == 87) _ _ (both-fit (IsUpTo 16) IsLamp lamps.Pedestrian (from_one_to 16 (head_number digits)) (pedestrian_signal_of aspect) (up-to-fits 16 (head_number digits)) (λ x y h. h)) tt))
 
 preempt-fits : (n : Option ℕ) (on : Option Bool) → OfAny (λ n. n < 2 ^ 32) n → OfAny IsSound (preempt_of n on)

@@ -9,7 +9,7 @@ use Rattle.tsb_text.specs.tsb_types.declared.limits.TheConstants.{OVERLAPS, PEDE
 use Rattle.tsb_types.specs.declared.clock_time.TheConstants.{FIRST_MOMENT, END_OF_DAYS}
 use Rattle.tsb_text.specs.tsb_step.tsb_plan.Plan.{Plan}
 use Rattle.tsb_step.specs.declared.inputs.Input.{Input}
-use Rattle.tsb_step.specs.declared.inputs.Input.TheVariants.{Tick, Pattern, Switch, Fault, Reset, Begin, Set, Verify, Commit, Abort, Clock}
+use Rattle.tsb_step.specs.declared.inputs.Input.TheVariants.{Tick, Pattern, Switch, Fault, Reset, Begin, Set, Verify, Commit, Abort, Clock, Omit}
 use Rattle.tsb_step.specs.Runs.{replay}
 use Rattle.tsb_command_text.specs.declared.command.Command.{Command}
 use Rattle.tsb_command_text.specs.declared.command.Command.TheVariants as commands
@@ -59,6 +59,7 @@ IsUpTo most n = (1 ≤ n) × (n ≤ most)
 abbrev pub IsLamp : Lamp → Type 0
 IsLamp (lamps.Phase p color) = IsUpTo 16 p
 IsLamp (lamps.Overlap o color) = IsUpTo OVERLAPS o
+IsLamp (lamps.Arrow o) = IsUpTo OVERLAPS o
 IsLamp (lamps.Pedestrian p color) = IsUpTo 16 p
 
 -- the lamp of a fault, if there is one
@@ -78,6 +79,7 @@ IsSpelled (Set station id v) = IsUpTo 4 station × (id.index < 2 ^ 32) × (v < 2
 IsSpelled (Verify station) = IsUpTo 4 station
 IsSpelled (Commit station) = IsUpTo 4 station
 IsSpelled (Abort station) = IsUpTo 4 station
+IsSpelled (Omit list) = list < 2 ^ 32
 IsSpelled (Clock time) = (FIRST_MOMENT ≤ time) × (time < END_OF_DAYS)
 
 -- each of these inputs is, and its tick is a number
@@ -97,6 +99,7 @@ command_of (Set station id v) = commands.Set station id v ∷ []
 command_of (Verify station) = commands.Verify station ∷ []
 command_of (Commit station) = commands.Commit station ∷ []
 command_of (Abort station) = commands.Abort station ∷ []
+command_of (Omit list) = commands.Omit list ∷ []
 command_of (Clock time) = commands.Clock time ∷ []
 
 -- so many ticks; none need no command

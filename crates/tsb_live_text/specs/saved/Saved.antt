@@ -18,7 +18,7 @@ use Rattle.tsb_text.specs.tsb_types.declared.lamp.SignalColor.TheVariants as sig
 use Rattle.tsb_text.specs.tsb_types.declared.lamp.PedestrianColor.{PedestrianColor}
 use Rattle.tsb_text.specs.tsb_types.declared.lamp.PedestrianColor.TheVariants as pedestrians
 use Rattle.tsb_step.specs.declared.inputs.Input.{Input}
-use Rattle.tsb_step.specs.declared.inputs.Input.TheVariants.{Tick, Pattern, Switch, Fault, Reset, Begin, Set, Verify, Commit, Abort, Clock}
+use Rattle.tsb_step.specs.declared.inputs.Input.TheVariants.{Tick, Pattern, Switch, Fault, Reset, Begin, Set, Verify, Commit, Abort, Clock, Omit}
 use Rattle.tsb_text.specs.declared.kept.Other.{Other}
 use Rattle.tsb_text.specs.kept.Kept.{Keeping}
 
@@ -45,6 +45,7 @@ pedestrian_word pedestrians.DontWalk = codes " D"
 abbrev pub lamp_line : Lamp → List ℕ
 lamp_line (lamps.Phase p color) = codes "fault P" ++ (decimal p ++ signal_word color)
 lamp_line (lamps.Overlap o color) = codes "fault O" ++ (decimal o ++ signal_word color)
+lamp_line (lamps.Arrow o) = codes "fault O" ++ (decimal o ++ codes " P")
 lamp_line (lamps.Pedestrian p color) = codes "fault W" ++ (decimal p ++ pedestrian_word color)
 
 -- a space and a number
@@ -64,6 +65,7 @@ input_line (Set station id v) = codes "set " ++ (decimal station ++ (32 ∷ (nam
 input_line (Verify station) = codes "verify " ++ decimal station
 input_line (Commit station) = codes "commit " ++ decimal station
 input_line (Abort station) = codes "abort " ++ decimal station
+input_line (Omit list) = codes "omit " ++ decimal list
 input_line (Clock time) = codes "clock " ++ (date_text (date_of time) ++ (32 ∷ time_text (time % DAY)))
 
 -- ## Lines of commands

@@ -6,7 +6,7 @@ use Rattle.tsb_step.specs.declared.inputs.Input.TheVariants as inputs
 use Rattle.tsb_step.specs.Runs.{AreTaken, replay}
 use Rattle.tsb_step.specs.Step.{verdict}
 use Rattle.tsb_command_text.specs.declared.command.Command.{Command}
-use Rattle.tsb_command_text.specs.declared.command.Command.TheVariants.{Step, Begin, Set, Verify, Commit, Abort, Pattern, Preempt, Fault, Reset, Clock}
+use Rattle.tsb_command_text.specs.declared.command.Command.TheVariants.{Step, Begin, Set, Verify, Commit, Abort, Pattern, Preempt, Fault, Reset, Clock, Omit}
 use Rattle.tsb_log_text.specs.Logs.{row_at}
 use Rattle.tsb_log_text.specs.declared.log.LogRow.{LogRow}
 use Rattle.tsb_text.specs.kept.Kept.{kept_of}
@@ -37,6 +37,7 @@ Takes plan log (Pattern n) is left = TakesInput plan (inputs.Pattern n) is left
 Takes plan log (Preempt n on) is left = TakesInput plan (inputs.Switch n on) is left
 Takes plan log (Fault lamp) is left = TakesInput plan (inputs.Fault lamp) is left
 Takes plan log Reset is left = TakesInput plan inputs.Reset is left
+Takes plan log (Omit list) is left = TakesInput plan (inputs.Omit list) is left
 Takes plan log (Clock time) is left = TakesInput plan (inputs.Clock time) is left
 Takes plan log c is left = ⊥
 

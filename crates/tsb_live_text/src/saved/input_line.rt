@@ -35,6 +35,7 @@ pub(crate) fn input_line(input: &Input) -> Line
         Input::Commit(station) => station_line(b"commit ", station),
         Input::Abort(station) => station_line(b"abort ", station),
         Input::Clock(time) => clock_line(time),
+        Input::Omit(list) => number_line(b"omit ", list),
     }
 }
 
@@ -119,6 +120,7 @@ fn lamp_line(lamp: Lamp) -> Line
         Lamp::Overlap(overlap, color) => {
             numbered(b"fault O", u32::from(overlap.number()), signal_word(color))
         }
+        Lamp::Arrow(overlap) => numbered(b"fault O", u32::from(overlap.number()), b" P"),
     }
 }
 

@@ -69,6 +69,7 @@ walks = record {
   overlap_reds = λ o. false;
   overlap_yellows = λ o. false;
   overlap_greens = λ o. o == 1;
+  overlap_arrows = None;
   active = λ d. d == 2;
   alarms = λ d. d == 16;
   preempt = λ n. if n == 2 then preempt_states.NotActiveWithCall else preempt_states.NotActive;
@@ -87,6 +88,20 @@ walks = record {
 line_of_walks : status_text walks ≡ codes "{\"tick\":120,\"phaseStatusGroup\":{\"reds\":[4,8],\"yellows\":[],\"greens\":[2,6],\"dontWalks\":[],\"pedClears\":[],\"walks\":[2],\"vehCalls\":[4],\"pedCalls\":[],\"phaseOns\":[2,6],\"phaseNexts\":[]},\"overlapStatusGroup\":{\"reds\":[],\"yellows\":[],\"greens\":[1]},\"vehicleDetectorStatusGroup\":{\"active\":[2],\"alarms\":[16]},\"preemptState\":[\"notActive\",\"notActiveWithCall\",\"notActive\",\"notActive\"],\"coordPatternStatus\":254,\"localFreeStatus\":\"commandFree\",\"localCounter\":null,\"coordSyncStatus\":null,\"unitFlashStatus\":\"notFlash\",\"desk\":{\"owner\":3,\"state\":\"verify\"},\"rings\":[{\"ringStatus\":\"minimumGreen\",\"phase\":2,\"next\":null,\"initialLeft\":0,\"gap\":30,\"gapLeft\":30,\"maximumLeft\":null,\"walkLeft\":25,\"clearanceLeft\":null,\"yellowLeft\":null,\"redClearanceLeft\":null,\"forceOffIn\":null},{\"ringStatus\":\"greenRest\",\"phase\":6,\"next\":null,\"initialLeft\":0,\"gap\":30,\"gapLeft\":0,\"maximumLeft\":null,\"walkLeft\":null,\"clearanceLeft\":null,\"yellowLeft\":null,\"redClearanceLeft\":null,\"forceOffIn\":null}],\"waits\":[{\"phase\":4,\"for\":\"green\",\"of\":2,\"lack\":\"walk\",\"left\":25}]}"
 unfolding opened_line walks green_in
 line_of_walks = refl
+
+-- ## Overlap 1 is an arrow, beside phase 4 that trails
+
+-- arrow 1 flashes, and overlap 2 follows phase 4 in green
+shows_arrow : Status
+shows_arrow = record walks { overlap_greens = λ o. o == 2; overlap_arrows = Some (λ o. o == 1) }
+
+overlaps_of_arrow : overlaps_text shows_arrow ≡ codes "{\"reds\":[],\"yellows\":[],\"greens\":[2],\"flashingYellows\":[1]}"
+unfolding opened_line walks shows_arrow
+overlaps_of_arrow = refl
+
+wait_of_trail : wait_text 7 (waits.Trails 4 2 25) ≡ codes "{\"phase\":7,\"for\":\"trails\",\"of\":4,\"overlap\":2,\"left\":25}"
+unfolding opened_line
+wait_of_trail = refl
 
 -- ## The longest line
 
@@ -123,6 +138,7 @@ full = record {
   overlap_reds = λ o. true;
   overlap_yellows = λ o. true;
   overlap_greens = λ o. true;
+  overlap_arrows = Some (λ o. true);
   active = λ d. true;
   alarms = λ d. true;
   preempt = λ n. preempt_states.NotActiveWithCall;

@@ -4,7 +4,7 @@ use Rattle.std.specs.Fmt.{digits}
 use Rattle.json.specs.Print.{print_from, escape_byte}
 use Rattle.tsb_objects.specs.tsb_rules.declared.rules.Rule.TheVariants.{K8}
 use Rattle.tsb_objects.specs.tsb_types.Lists.{run_from}
-use Rattle.tsb_plan.specs.declared.object.Object.TheVariants.{PhaseYellowChange, PreemptMaximumPresence, VehicleDetectorDelay}
+use Rattle.tsb_plan.specs.declared.object.Object.TheVariants.{OverlapType, PhaseYellowChange, PreemptMaximumPresence, VehicleDetectorDelay}
 use Rattle.tsb_plan.specs.Objects.{objects}
 use Rattle.tsb_plan.specs.Plan.{empty, with_value}
 use Rattle.tsb_plan.specs.Two.{two}
@@ -29,6 +29,11 @@ line_of_zeros = refl
 line_of_later : plan_text (with_value empty VehicleDetectorDelay 17 5) ≡ codes "{\"version\":3,\"vehicleDetectorDelay\":{\"17\":5}}"
 unfolding plan_text plan_json version_for fits_version_2 with_object is_all_zeros table objects run_from print_from escape_byte digits
 line_of_later = refl
+
+-- a protected and permissive arrow, a type of overlap that version 2 has not, though it has the object
+line_of_arrow : plan_text (with_value empty OverlapType 1 2) ≡ codes "{\"version\":3,\"overlapType\":{\"1\":2}}"
+unfolding plan_text plan_json version_for fits_version_2 with_object is_all_zeros table objects run_from print_from escape_byte digits
+line_of_arrow = refl
 
 -- ## Desks
 

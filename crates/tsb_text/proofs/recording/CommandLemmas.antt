@@ -16,7 +16,7 @@ use Rattle.tsb_command_text.specs.Readings.{reading}
 use Rattle.tsb_dialog.specs.declared.answers.Flow.{Flow}
 use Rattle.tsb_dialog.specs.declared.answers.Flow.TheVariants.{On, Over}
 use Rattle.tsb_text.specs.Answers as answers
-use Rattle.tsb_text.specs.Answers.{GoesUnless, Setup, follower, follower_of, next_tick}
+use Rattle.tsb_text.specs.Answers.{GoesUnless, Setup, followers, followers_of, next_tick}
 use Rattle.tsb_text.specs.Obeys.{Obeys, TakesTicks, nothing_besides}
 use Rattle.tsb_text.specs.Tasks.{task_of}
 use Rattle.tsb_text.specs.declared.task.Task.{Task}
@@ -55,11 +55,11 @@ both plan is new last (c ∷ cs) (a ∷ ans) right left rest =
 pub then : (plan : Plan) (is new last : List Input) → Leads plan is new → Leads plan new last → Leads plan is last
 then plan is new last first rest = both plan is new last first.cs first.ans first.right first.left rest
 
--- what follows an input is one command more, if something does
-pub by-leads : (given : Setup) (is : List Input) (next : Option Input) (stop : Option Refusal) (new : List Input) → answers.Leads given is next stop new → Leads given.plan is new
-by-leads given is None stop new l = stay given.plan is new l.1
-by-leads given is (Some i) stop new (inl l) = one given.plan is new (asks.Apply i) Took l.0 l.2
-by-leads given is (Some i) stop new (inr l) = one given.plan is new (asks.Apply i) (Refused l.why) l.right l.left
+-- each input that follows is one command more
+pub by-leads : (given : Setup) (is next : List Input) (stop : Option Refusal) (new : List Input) → answers.Leads given is next stop new → Leads given.plan is new
+by-leads given is [] stop new l = stay given.plan is new l.1
+by-leads given is (i ∷ next) stop new (inl l) = onto given.plan is new (asks.Apply i) Took l.0 (by-leads given (i ∷ is) next stop new l.1)
+by-leads given is (i ∷ next) stop new (inr l) = one given.plan is new (asks.Apply i) (Refused l.why) l.right l.left
 
 by-goes : (plan : Plan) (stop refusal : Option Refusal) (rest : List ℕ) (left new : List Input) (Rest : Type 0) → (Rest → Leads plan left new) → GoesUnless stop Rest ((rest ≡ []) × (refusal ≡ stop) × (new ≡ left)) → Leads plan left new
 by-goes plan None refusal rest left new Rest go g = go g
@@ -69,7 +69,7 @@ by-ticks : (given : Setup) (n : ℕ) (is : List Input) (text : List ℕ) (refusa
 by-ticks given zero is text refusal new t = stay given.plan is new t.2
 by-ticks given (suc n) is text refusal new (inl t) =
     onto given.plan is new (asks.Apply (next_tick given is)) Took t.3.right
-    (then given.plan (next_tick given is ∷ is) t.2 new (by-leads given (next_tick given is ∷ is) (follower given is (next_tick given is)) t.1 t.2 t.3.leads)
+    (then given.plan (next_tick given is ∷ is) t.2 new (by-leads given (next_tick given is ∷ is) (followers given is (next_tick given is)) t.1 t.2 t.3.leads)
     (by-goes given.plan t.1 refusal t.0 t.2 new (TakesTicks given nothing_besides t.2 n t.0 refusal new) (λ rest. by-ticks given n t.2 t.0 refusal new rest) t.4))
 by-ticks given (suc n) is text refusal new (inr t) = one given.plan is new (asks.Apply (next_tick given is)) (Refused t.why) t.right t.left
 
@@ -78,7 +78,7 @@ by-task given is (Ticks n) text refusal new o = by-ticks given n is text refusal
 by-task given is tasks.Show text refusal new o = stay given.plan is new o.2
 by-task given is tasks.Quit text refusal new o = stay given.plan is new o.2
 by-task given is (Ask cmd) text refusal new o =
-    onto given.plan is new cmd o.answer o.right (by-leads given (remaining_after given.plan is cmd o.answer) (follower_of given is cmd o.answer) o.stop new o.left)
+    onto given.plan is new cmd o.answer o.right (by-leads given (remaining_after given.plan is cmd o.answer) (followers_of given is cmd o.answer) o.stop new o.left)
 
 by-does : (given : Setup) (is : List Input) (r : Reading) (fault : Option LineFault) (new : List Input) → Does given is r fault new → Leads given.plan is new
 by-does given is Skip fault new d = stay given.plan is new d.1
@@ -103,7 +103,7 @@ by-clock : (given : Setup) (clock : Option ℕ) (first : List Input) → BeginsW
 unfolding verdict
 by-clock given None first begins = stay given.plan [] first begins
 by-clock given (Some m) first begins =
-    onto given.plan [] first (asks.Apply (Clock m)) Took refl (by-leads given (Clock m ∷ []) (follower given [] (Clock m)) None first begins)
+    onto given.plan [] first (asks.Apply (Clock m)) Took refl (by-leads given (Clock m ∷ []) (followers given [] (Clock m)) None first begins)
 
 pub lines_leave_what_remains : (on_fault : OnFault) (given : Setup) (clock : Option ℕ) (first : List Input) (end : End) (lines : List (List ℕ)) (told : List ℕ)
     → BeginsWith given clock first → Come on_fault given end 1 first lines told

@@ -1,6 +1,5 @@
 -- How a record begins: with no input, or with that of its clock and what follows it.
-use Rattle.std.proofs.Common.{◌≡◌, ℕ, Bool, List, [], ◌∷◌, Some, None, Ok, sym, subst}
-use Rattle.std.specs.declared.option.Option.{Option}
+use Rattle.std.proofs.Common.{◌≡◌, ℕ, List, [], ◌∷◌, Some, None, sym, subst}
 use Rattle.tsb_bench.specs.Held.{whole}
 use Rattle.tsb_step.specs.declared.inputs.Input.{Input}
 use Rattle.tsb_step.specs.declared.inputs.Input.TheVariants.{Clock}
@@ -9,8 +8,8 @@ use Rattle.tsb_step.specs.Play.{Follows}
 use Rattle.tsb_log_text.specs.declared.log.LogRow.{LogRow}
 use Rattle.tsb_text.specs.declared.course.Mode.{Mode}
 use Rattle.tsb_text.specs.declared.course.Mode.TheVariants.{Recording}
-use Rattle.tsb_text.specs.Answers.{Leads, Setup, follower}
-use Rattle.tsb_text.specs.Obeyed.{Followed, IsKept, IsTold, OnCourse, Stands}
+use Rattle.tsb_text.specs.Answers.{Leads, Setup, followers}
+use Rattle.tsb_text.specs.Obeyed.{FollowedAll, IsKept, IsTold, OnCourse, Stands}
 use Rattle.tsb_text.specs.recording.Leaves.{BeginsWith}
 use Rattle.tsb_text.specs.recording.Told.{nothing_told}
 
@@ -28,7 +27,7 @@ record-begins given log course form recording same rows follows told acts wide =
 }
 
 -- its clock is set first, and what follows that is taken
-pub clock-begins : (given : Setup) (log : List LogRow) (mid new : OnCourse) (m : ℕ) (done : Bool) → mid.next ≡ follower given [] (Clock m) → Followed (Ok done) given log mid.next new (Clock m ∷ [])
+pub clock-begins : (given : Setup) (log : List LogRow) (mid new : OnCourse) (m : ℕ) → mid.next ≡ followers given [] (Clock m) → FollowedAll None given log mid.next new (Clock m ∷ [])
     → (first : List Input) × BeginsWith given (Some m) first × Stands given log new first
-clock-begins given log mid new m done next followed =
-    (followed.0, subst (λ (n : Option Input). Leads given (Clock m ∷ []) n None followed.0) next followed.1, followed.2)
+clock-begins given log mid new m next followed =
+    (followed.0, subst (λ (n : List Input). Leads given (Clock m ∷ []) n None followed.0) next followed.1, followed.2)

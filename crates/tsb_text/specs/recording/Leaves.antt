@@ -11,7 +11,7 @@ use Rattle.tsb_command_text.specs.declared.command.Reading.TheVariants.{Skip, Ba
 use Rattle.tsb_command_text.specs.Readings.{reading}
 use Rattle.tsb_dialog.specs.declared.answers.Flow.{Flow}
 use Rattle.tsb_dialog.specs.declared.answers.Flow.TheVariants.{On, Over}
-use Rattle.tsb_text.specs.Answers.{Leads, Setup, follower}
+use Rattle.tsb_text.specs.Answers.{Leads, Setup, followers}
 use Rattle.tsb_text.specs.Obeys.{Obeys, nothing_besides}
 use Rattle.tsb_text.specs.Tasks.{task_of}
 use Rattle.tsb_text.specs.declared.task.Task.{Task}
@@ -26,7 +26,7 @@ use Rattle.tsb_text.specs.recording.Faults.{fault_text}
 -- a record begins with these inputs: that of its clock and what follows it, or none where it has no clock
 abbrev pub BeginsWith : Setup → Option ℕ → List Input → Type 0
 BeginsWith given None first = first ≡ []
-BeginsWith given (Some m) first = Leads given (Clock m ∷ []) (follower given [] (Clock m)) None first
+BeginsWith given (Some m) first = Leads given (Clock m ∷ []) (followers given [] (Clock m)) None first
 
 -- ## Commands
 

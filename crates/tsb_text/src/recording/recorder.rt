@@ -3,12 +3,12 @@ ghost use Rattle.std.specs.Prelude.{◌≡◌, ◌⊎◌, List, Some};
 ghost use Rattle.tsb_step.specs.declared.inputs.Input.{Input as InputValue};
 ghost use Rattle.tsb_log_text.specs.declared.log.LogRow.{LogRow};
 ghost use Rattle.tsb_text.specs.Answers.{Setup};
-ghost use Rattle.tsb_text.specs.Obeyed.{AsksNext, Stands};
+ghost use Rattle.tsb_text.specs.Obeyed.{AsksNext, FollowedAll, Stands};
 ghost use Rattle.tsb_text.specs.declared.task.Task.TheVariants as tasks;
 ghost use Rattle.tsb_text.specs.recording.Leaves.{Does, Leaves, LeavesOf};
 ghost use Rattle.tsb_text.specs.recording.Recording.{Left};
 ghost use Rattle.tsb_text.specs.Tasks.{task_of};
-ghost use Rattle.tsb_text.specs.Wanting.{IsWanting, WantsFor, WantsPattern, WantsTo, tick_of};
+ghost use Rattle.tsb_text.specs.Wanting.{IsWanting, WantsAfter, WantsFollower, WantsFor, WantsTo, tick_of};
 ghost use Rattle.tsb_types.specs.declared.refusal.Refusal.TheVariants.{Memory};
 
 use crate::answers::refusal_in;
@@ -51,7 +51,7 @@ fn obey(course: &mut Course, command: Command) -> Option<Refusal>
 /// So many ticks, up to one that is refused.
 fn step(course: &mut Course, ticks: u32) -> Option<Refusal>
     ensures done { (given : Setup) (log : List LogRow) (inputs : List InputValue) → Stands given log course.old inputs → Left result given log course.new (LeavesOf given inputs (tasks.Ticks ticks)) }
-    ensures wanting { result ≡ Some Memory → IsWanting course.new (tick_of course.new) ⊎ WantsPattern course.new }
+    ensures wanting { result ≡ Some Memory → IsWanting course.new (tick_of course.new) ⊎ WantsFollower course.new }
     ensures mode { course.new.mode ≡ course.old.mode }
 {
     for _i in 0..ticks {
@@ -59,9 +59,9 @@ fn step(course: &mut Course, ticks: u32) -> Option<Refusal>
             Ok(()) => {}
             Err(refusal) => return Some(refusal),
         }
-        match course.follow() {
-            Ok(_) => {}
-            Err(refusal) => return Some(refusal),
+        match follow_all(course) {
+            None => {}
+            Some(refusal) => return Some(refusal),
         }
     }
     None
@@ -71,14 +71,29 @@ fn step(course: &mut Course, ticks: u32) -> Option<Refusal>
 fn ask(course: &mut Course, command: Cmd) -> Option<Refusal>
     ensures done { (given : Setup) (log : List LogRow) (inputs : List InputValue) → Stands given log course.old inputs → AsksNext course.old.mode given inputs command
         → Left result given log course.new (LeavesOf given inputs (tasks.Ask command)) }
-    ensures wanting { result ≡ Some Memory → WantsTo course.new command ⊎ WantsPattern course.new }
+    ensures wanting { result ≡ Some Memory → WantsTo course.new command ⊎ WantsFollower course.new }
     ensures mode { course.new.mode ≡ course.old.mode }
 {
     match command {
         Cmd::When(_) => None,
         _ => match refusal_in(&course.answer(command)) {
             Some(refusal) => Some(refusal),
-            None => course.follow().err(),
+            None => follow_all(course),
         },
+    }
+}
+
+/// Takes all that follows the newest input, one after another, up to what is refused. It gives why that was, if it was.
+pub(crate) fn follow_all(course: &mut Course) -> Option<Refusal>
+    ensures followed { (given : Setup) (log : List LogRow) (inputs : List InputValue) → Stands given log course.old inputs → FollowedAll result given log course.old.next course.new inputs }
+    ensures wanting { result ≡ Some Memory → WantsAfter course.new course.old.next }
+    ensures mode { course.new.mode ≡ course.old.mode }
+{
+    loop {
+        match course.follow() {
+            Ok(true) => {}
+            Ok(false) => return None,
+            Err(refusal) => return Some(refusal),
+        }
     }
 }

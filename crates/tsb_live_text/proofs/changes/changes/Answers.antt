@@ -6,7 +6,7 @@ use Rattle.tsb_text.specs.Obeyed.{besides_of, tells_in}
 use Rattle.tsb_text.proofs.CourseLemmas.{no-refusal, told-memory}
 use Rattle.tsb_types.specs.declared.refusal.Refusal.TheVariants.{Memory}
 use Rattle.tsb_step.specs.declared.inputs.Input.TheVariants.{Tick}
-use Rattle.tsb_text.proofs.AnswerLemmas.{wants-pattern}
+use Rattle.tsb_text.proofs.AnswerLemmas.{wants-followers}
 use Rattle.tsb_live_text.proofs.ChangeLemmas.{changes-end, changes-end-fault, changes-fault, changes-more, changes-started, changes-stop, changes-stop-after, held-next, held-took, line-long}
 use Rattle.tsb_live_text.proofs.changes.changes.Goals as goal
 
@@ -59,7 +59,7 @@ returns-in-Some-clause-done g c given log row is s held =
 pub returns-in-Some-clause-wanting : goal.returns-in-Some-clause-wanting
 returns-in-Some-clause-wanting g c is =
     let same : c.in-Some.refusal ≡ Memory = told-memory c.say_stop-in-Some.result c.in-Some.refusal c.say_stop-in-Some.ensures.told is in
-    inr (wants-pattern c.say_tick.new.course c.tick.new.self.next (c.in_ok-refusal.ensures.wanting (ap Ok (c.in-Some.is ∙ ap Some same))))
+    inr (wants-followers c.say_tick.new.course c.tick.new.self.next (c.in_ok-refusal.ensures.wanting (ap Ok (c.in-Some.is ∙ ap Some same))))
 
 pub returns-in_err-refusal-clause-wanting : goal.returns-in_err-refusal-clause-wanting
 returns-in_err-refusal-clause-wanting g c is = let p = err_from_is_err_and c.from_residual.result c.from_residual.ensures.1 in

@@ -1,6 +1,5 @@
 use Rattle.std.proofs.Common.{arith}
 use Rattle.tsb_lines.proofs.RoomLemmas.{at-most, then}
-use Rattle.tsb_status_text.proofs.RoomLemmas.{part}
 use Rattle.tsb_status_text.specs.StatusText.{overlaps_text}
 use Rattle.tsb_status_text.proofs.groups.push_overlaps.Goals as goal
 
@@ -11,4 +10,4 @@ returns c =
     (then c.push_overlap_set.ensures
     (then c.push_overlap_set-2.ensures
     (then c.push_overlap_set-3.ensures
-    (part c.push.ensures.line))))
+    c.push_arrows.ensures)))

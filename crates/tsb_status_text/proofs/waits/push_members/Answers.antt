@@ -44,3 +44,6 @@ returns-in-Beside c = rw c.in-Beside.is (at-most (omega arith) c.push_clearing-i
 
 pub returns-in-Green : goal.returns-in-Green
 returns-in-Green c = rw c.in-Green.is (at-most (omega arith) c.push_green.ensures)
+
+pub returns-in-Trails : goal.returns-in-Trails
+returns-in-Trails c = rw c.in-Trails.is (at-most (omega arith) c.push_trailing.ensures)

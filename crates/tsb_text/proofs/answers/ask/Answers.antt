@@ -2,7 +2,7 @@ use Rattle.std.proofs.Common.{◌∙◌, Ok, Some, ap, inl, inr, sym}
 use Rattle.std.proofs.lemmas.Result.{err_from_is_err_and}
 use Rattle.tsb_text.specs.Obeyed.{besides_of}
 use Rattle.tsb_text.proofs.CourseLemmas.{no-refusal, refusal-memory, told-memory}
-use Rattle.tsb_text.proofs.AnswerLemmas.{ask-cut-before, ask-cut-line, ask-cut-next, ask-refused, ask-so, told-stop, wants-pattern}
+use Rattle.tsb_text.proofs.AnswerLemmas.{ask-cut-before, ask-cut-line, ask-cut-next, ask-refused, ask-so, told-stop, wants-followers}
 use Rattle.tsb_text.proofs.answers.ask.Goals as goal
 
 pub returns-in-Some-clause-done : goal.returns-in-Some-clause-done
@@ -39,7 +39,7 @@ returns-clause-done g c given log is s next =
 
 pub returns-clause-wanting : goal.returns-clause-wanting
 returns-clause-wanting g c is =
-    inr (wants-pattern c.follow.new.course c.answer-answer.new.self.next (c.in_ok-stop.ensures.wanting (ap Ok (told-stop c.say_if_refused.result c.in_ok-stop.stop c.say_if_refused.ensures.told is))))
+    inr (wants-followers c.follow.new.course c.answer-answer.new.self.next (c.in_ok-stop.ensures.wanting (ap Ok (told-stop c.say_if_refused.result c.in_ok-stop.stop c.say_if_refused.ensures.told is))))
 
 pub returns-in_err-say_before-clause-wanting : goal.returns-in_err-say_before-clause-wanting
 returns-in_err-say_before-clause-wanting g c is = let p = err_from_is_err_and c.from_residual.result c.from_residual.ensures.1 in

@@ -3,7 +3,7 @@ use Rattle.std.proofs.lemmas.Result.{err_from_is_err_and}
 use Rattle.tsb_text.specs.Obeyed.{besides_of, tells_in}
 use Rattle.tsb_objects.specs.tsb_types.declared.refusal.Refusal.TheVariants.{Memory}
 use Rattle.tsb_text.proofs.CourseLemmas.{no-refusal, told-memory}
-use Rattle.tsb_text.proofs.AnswerLemmas.{steps-end, steps-fault, steps-more, steps-over, steps-start, steps-stop, wants-pattern}
+use Rattle.tsb_text.proofs.AnswerLemmas.{steps-end, steps-fault, steps-more, steps-over, steps-start, steps-stop, wants-followers}
 use Rattle.tsb_text.proofs.answers.step.Goals as goal
 
 pub loop-i-init : goal.loop-i-init
@@ -38,7 +38,7 @@ returns-in-Some-clause-done g c given log is s =
     _ c.in-Some.refusal c.in-Some.is (λ given log inputs stands. c.in_ok-refusal-in-Ok.ensures.done given log inputs stands)
 
 pub returns-in-Some-clause-wanting : goal.returns-in-Some-clause-wanting
-returns-in-Some-clause-wanting g c is = inr (wants-pattern c.say_tick.new.course c.tick.new.self.next (c.in_ok-refusal-in-Ok.ensures.wanting (ap Ok c.in-Some.is ∙ is)))
+returns-in-Some-clause-wanting g c is = inr (wants-followers c.say_tick.new.course c.tick.new.self.next (c.in_ok-refusal-in-Ok.ensures.wanting (ap Ok c.in-Some.is ∙ is)))
 
 pub returns-in-Err-clause-done : goal.returns-in-Err-clause-done
 returns-in-Err-clause-done g c given log is s =

@@ -4,7 +4,7 @@ use Rattle.std.specs.Fmt.{digits}
 use Rattle.tsb_types.specs.Events.{event}
 use Rattle.tsb_step.specs.tsb_history.declared.kinds.Kind.TheVariants as kinds
 use Rattle.tsb_step.specs.tsb_plan.Plan.{Plan}
-use Rattle.tsb_step.specs.Following.{action, action_from, following, selects}
+use Rattle.tsb_step.specs.Following.{action, action_from, followers as all_followers, following, selects, with_omits}
 use Rattle.tsb_step.specs.Play.{IsRight}
 use Rattle.tsb_step.specs.Runs.{replay}
 use Rattle.tsb_step.specs.State.{State}
@@ -20,7 +20,7 @@ use Rattle.std.specs.declared.option.Option.{Option}
 use Rattle.tsb_step.specs.declared.inputs.Input.{Input}
 use Rattle.tsb_step.specs.declared.inputs.Input.TheVariants as inputs
 use Rattle.tsb_command_text.specs.Readings.{reading}
-use Rattle.tsb_text.specs.Answers.{Leads, Setup, follower, next_tick}
+use Rattle.tsb_text.specs.Answers.{Leads, Setup, followers, next_tick}
 use Rattle.tsb_text.specs.declared.faults.LineFault.{LineFault}
 use Rattle.tsb_text.specs.declared.faults.LineFault.TheVariants.{BadCommand}
 use Rattle.tsb_text.specs.declared.faults.OnFault.{OnFault}
@@ -93,15 +93,17 @@ left is = record { inputs = is; stop = None }
 no_action : (before after : State) → after.start_moment ≡ None → following before after ≡ None
 no_action before after none = ap (λ (m : Option ℕ). selects after.plan (action before) (action_from after.plan m after.now)) none
 
-none_follows : (given : Setup) → follower given [] (next_tick given []) ≡ None
+none_follows : (given : Setup) → followers given [] (next_tick given []) ≡ []
 none_follows given = go given.acts
   where
-    go : (acts : Bool) → (if acts then following (replay given.plan []) (replay given.plan (next_tick given [] ∷ [])) else None) ≡ None
-    go true = no_action (replay given.plan []) (replay given.plan (next_tick given [] ∷ [])) (no_clock_no_change given.plan (next_tick given [] ∷ []) (refl, tt)).start
+    go : (acts : Bool) → (if acts then all_followers (replay given.plan []) (replay given.plan (next_tick given [] ∷ [])) else []) ≡ []
+    go true =
+        ap (with_omits (replay given.plan (next_tick given [] ∷ [])))
+        (no_action (replay given.plan []) (replay given.plan (next_tick given [] ∷ [])) (no_clock_no_change given.plan (next_tick given [] ∷ []) (refl, tt)).start)
     go false = refl
 
-tick_leads : (given : Setup) → Leads given (next_tick given [] ∷ []) (follower given [] (next_tick given [])) None (next_tick given [] ∷ [])
-tick_leads given = subst (λ (n : Option Input). Leads given (next_tick given [] ∷ []) n None (next_tick given [] ∷ [])) (sym (none_follows given)) (refl, refl)
+tick_leads : (given : Setup) → Leads given (next_tick given [] ∷ []) (followers given [] (next_tick given [])) None (next_tick given [] ∷ [])
+tick_leads given = subst (λ (n : List Input). Leads given (next_tick given [] ∷ []) n None (next_tick given [] ∷ [])) (sym (none_follows given)) (refl, refl)
 
 -- a tick from power-up leaves that tick, of any plan and log
 ticks_once : (given : Setup) → Does given [] (Do (Step 1)) None (next_tick given [] ∷ [])
@@ -177,12 +179,22 @@ clock_first plan log m clock sets =
     clocks_are_first_lines Stop (record { plan = plan; log = log; acts = false; is_wide = false }) m (inputs.Clock m ∷ []) (left (inputs.Clock m ∷ [])) 1 clock [] [] sets (refl, refl) (refl, refl)
 
 -- where one does, the pattern is left that follows it
-pattern_next : (given : Setup) (m n : ℕ) (clock : List ℕ) → reading clock ≡ Do (Clock m) → follower given [] (inputs.Clock m) ≡ Some (inputs.Pattern n)
+pattern_next : (given : Setup) (m n : ℕ) (clock : List ℕ) → reading clock ≡ Do (Clock m) → followers given [] (inputs.Clock m) ≡ inputs.Pattern n ∷ []
     → IsRight given.plan (inputs.Clock m ∷ []) (Apply (inputs.Pattern n)) Took → Come Stop given (left (inputs.Pattern n ∷ inputs.Clock m ∷ [])) 1 [] (clock ∷ []) []
 pattern_next given m n clock sets follows right =
     let begins : BeginsWith given (Some m) (inputs.Pattern n ∷ inputs.Clock m ∷ []) =
-    subst (λ (o : Option Input). Leads given (inputs.Clock m ∷ []) o None (inputs.Pattern n ∷ inputs.Clock m ∷ [])) (sym follows) (inl (right, refl, refl)) in
+    subst (λ (o : List Input). Leads given (inputs.Clock m ∷ []) o None (inputs.Pattern n ∷ inputs.Clock m ∷ [])) (sym follows) (inl (right, (refl, refl))) in
     clocks_are_first_lines Stop given m (inputs.Pattern n ∷ inputs.Clock m ∷ []) (left (inputs.Pattern n ∷ inputs.Clock m ∷ [])) 1 clock [] [] sets begins (refl, refl)
+
+-- and the arrows that are omitted behind it, where it has others omitted
+omit_next : (given : Setup) (m n list : ℕ) (clock : List ℕ) → reading clock ≡ Do (Clock m) → followers given [] (inputs.Clock m) ≡ inputs.Pattern n ∷ inputs.Omit list ∷ []
+    → IsRight given.plan (inputs.Clock m ∷ []) (Apply (inputs.Pattern n)) Took → IsRight given.plan (inputs.Pattern n ∷ inputs.Clock m ∷ []) (Apply (inputs.Omit list)) Took
+    → Come Stop given (left (inputs.Omit list ∷ inputs.Pattern n ∷ inputs.Clock m ∷ [])) 1 [] (clock ∷ []) []
+omit_next given m n list clock sets follows first second =
+    let all : List Input = inputs.Omit list ∷ inputs.Pattern n ∷ inputs.Clock m ∷ [] in
+    let begins : BeginsWith given (Some m) all =
+    subst (λ (o : List Input). Leads given (inputs.Clock m ∷ []) o None all) (sym follows) (inl (first, inl (second, (refl, refl)))) in
+    clocks_are_first_lines Stop given m all (left all) 1 clock [] [] sets begins (refl, refl)
 
 -- were the clock of a record forgotten, it would leave no input where that line leaves one
 abbrev forgets : Option ℕ → List Input

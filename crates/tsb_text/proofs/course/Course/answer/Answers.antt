@@ -1,5 +1,4 @@
 use Rattle.std.proofs.Common.{◌∙◌, List, ap, arith, subst, sym}
-use Rattle.std.specs.Prelude.{option_map}
 use Rattle.tsb_bench.specs.Held.{whole}
 use Rattle.tsb_bench.specs.tsb_step.declared.inputs.Input.{Input}
 use Rattle.tsb_log_text.specs.declared.log.LogRow.{LogRow}
@@ -7,7 +6,6 @@ use Rattle.tsb_text.specs.Answers.{Setup}
 use Rattle.tsb_text.specs.Rows.{rows_in}
 use Rattle.tsb_text.specs.Obeyed.{Answered, AsksNext, OnCourse, Stands}
 use Rattle.tsb_text.specs.Wanting.{WantsTo}
-use Rattle.tsb_bench.specs.tsb_step.declared.inputs.Input.TheVariants.{Pattern}
 use Rattle.tsb_text.proofs.FollowLemmas.{none-after-command}
 use Rattle.tsb_text.proofs.CourseLemmas.{answered-refused, answered-there, answered-took, not-refused}
 use Rattle.tsb_text.proofs.course.Course.answer.Goals as goal
@@ -34,12 +32,12 @@ returns-in_default c = record {
   rows = c.forget.ensures.rows ∙ ap (λ (v : OnCourse). v.rows) c.self.view_is;
   acts = c.forget.ensures.acts ∙ ap (λ (v : OnCourse). v.acts) c.self.view_is;
   wide = c.forget.ensures.wide ∙ ap (λ (v : OnCourse). v.is_wide) c.self.view_is;
-  next = λ given log is s. c.forget.ensures.next ∙ sym (none-after-command given is c.args.command c.answer-given.result c.in_default.not-Apply);
+  next = λ given log is s. c.forget.ensures.next ∙ c.none-self-inside.ensures ∙ sym (none-after-command given is c.args.command c.answer-given.result c.in_default.not-Apply);
 }
   where
-    right : (given : Setup) (log : List LogRow) (is : List Input) → Stands given log (record { bench = c.self.inside.bench; rows = rows_in c.self.inside.rows; kept = c.self.inside.kept; told = c.self.inside.told; mode = c.self.inside.mode; news = c.self.inside.news.items; acts = c.self.inside.acts; is_wide = c.self.inside.is_wide; next = option_map Pattern c.self.inside.next }) is
+    right : (given : Setup) (log : List LogRow) (is : List Input) → Stands given log (record { bench = c.self.inside.bench; rows = rows_in c.self.inside.rows; kept = c.self.inside.kept; told = c.self.inside.told; mode = c.self.inside.mode; news = c.self.inside.news.items; acts = c.self.inside.acts; is_wide = c.self.inside.is_wide; next = c.self.inside.next }) is
         → Answered given log c.forget.new.self is c.args.command c.answer-given.result
-    right given log is s = answered-there given log is (record { bench = c.self.inside.bench; rows = rows_in c.self.inside.rows; kept = c.self.inside.kept; told = c.self.inside.told; mode = c.self.inside.mode; news = c.self.inside.news.items; acts = c.self.inside.acts; is_wide = c.self.inside.is_wide; next = option_map Pattern c.self.inside.next }) c.forget.new.self c.answer-given.new.bench c.args.command c.answer-given.result s
+    right given log is s = answered-there given log is (record { bench = c.self.inside.bench; rows = rows_in c.self.inside.rows; kept = c.self.inside.kept; told = c.self.inside.told; mode = c.self.inside.mode; news = c.self.inside.news.items; acts = c.self.inside.acts; is_wide = c.self.inside.is_wide; next = c.self.inside.next }) c.forget.new.self c.answer-given.new.bench c.args.command c.answer-given.result s
         c.in_default.not-Apply c.forget.ensures.mode c.forget.ensures.rows c.forget.ensures.acts c.forget.ensures.wide c.forget.ensures.bench c.answer-given.ensures.right c.forget.ensures.kept c.forget.ensures.told
 
 pub returns-in-Ok-clause-next : goal.returns-in-Ok-clause-next

@@ -1,7 +1,5 @@
 use Rattle.std.proofs.Common.{◌≡◌, OnErr, OnOk, inl, refl, subst, sym}
-use Rattle.std.specs.Prelude.{option_map}
 use Rattle.tsb_bench.specs.Held.{state_of, whole}
-use Rattle.tsb_bench.specs.tsb_step.declared.inputs.Input.TheVariants.{Pattern}
 use Rattle.tsb_bench.specs.tsb_step.Step.{step}
 use Rattle.tsb_text.specs.Rows.{rows_in}
 use Rattle.tsb_text.specs.Obeyed.{OnCourse, Stands}
@@ -10,7 +8,7 @@ use Rattle.tsb_text.proofs.course.Course.take_alone.Goals as goal
 
 pub returns-in-Plain-clause-took : goal.returns-in-Plain-clause-took
 returns-in-Plain-clause-took c given log is s next =
-    let old : OnCourse = record { bench = c.self.inside.bench; rows = rows_in c.self.inside.rows; kept = c.self.inside.kept; told = c.self.inside.told; mode = c.self.inside.mode; news = c.self.inside.news.items; acts = c.self.inside.acts; is_wide = c.self.inside.is_wide; next = option_map Pattern c.self.inside.next } in
+    let old : OnCourse = record { bench = c.self.inside.bench; rows = rows_in c.self.inside.rows; kept = c.self.inside.kept; told = c.self.inside.told; mode = c.self.inside.mode; news = c.self.inside.news.items; acts = c.self.inside.acts; is_wide = c.self.inside.is_wide; next = c.self.inside.next } in
     let here : Stands given log old is = subst (λ (v : OnCourse). Stands given log v is) (sym c.self.view_is) s in
     plain-took c.apply.result given log is old _ c.args.input here c.in-Plain.is refl refl refl
     (bench-took c.apply.result given.plan is c.self.inside.bench c.apply.new.self c.args.input here.follows c.apply.ensures.allowed c.apply.ensures.state c.apply.ensures.records c.apply.ensures.back c.apply.ensures.refused c.apply.ensures.err)

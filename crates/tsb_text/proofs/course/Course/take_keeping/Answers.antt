@@ -1,10 +1,8 @@
 use Rattle.std.proofs.Common.{◌≡◌, ◌∙◌, Err, OnErr, OnOk, ap, inl, refl, subst, sym}
-use Rattle.std.specs.Prelude.{option_map}
 use Rattle.tsb_bench.specs.Held.{state_of, whole}
 use Rattle.tsb_text.specs.Rows.{rows_in}
 use Rattle.tsb_text.specs.recording.Told.{Stored}
 use Rattle.tsb_text.specs.Obeyed.{OnCourse, Stands}
-use Rattle.tsb_bench.specs.tsb_step.declared.inputs.Input.TheVariants.{Pattern}
 use Rattle.tsb_bench.specs.tsb_step.Step.{step}
 use Rattle.tsb_text.proofs.FollowLemmas.{stepped}
 use Rattle.tsb_text.proofs.CourseLemmas.{bench-took, bench-wants, keep-wants, keeps-inputs, kept-refused, kept-so, quiet-news, still-there}
@@ -12,7 +10,7 @@ use Rattle.tsb_text.proofs.course.Course.take_keeping.Goals as goal
 
 pub returns-in-Err-clause-took : goal.returns-in-Err-clause-took
 returns-in-Err-clause-took c given log is s next =
-    let old : OnCourse = record { bench = c.self.inside.bench; rows = rows_in c.self.inside.rows; kept = c.self.inside.kept; told = c.self.inside.told; mode = c.self.inside.mode; news = c.self.inside.news.items; acts = c.self.inside.acts; is_wide = c.self.inside.is_wide; next = option_map Pattern c.self.inside.next } in
+    let old : OnCourse = record { bench = c.self.inside.bench; rows = rows_in c.self.inside.rows; kept = c.self.inside.kept; told = c.self.inside.told; mode = c.self.inside.mode; news = c.self.inside.news.items; acts = c.self.inside.acts; is_wide = c.self.inside.is_wide; next = c.self.inside.next } in
     let here : Stands given log old is = subst (λ (v : OnCourse). Stands given log v is) (sym c.self.view_is) s in
     kept-refused c.in-Err.refusal given log is old _ c.args.input here refl refl refl refl refl refl
     (bench-took (Err c.in-Err.refusal) given.plan is c.self.inside.bench c.apply.new.self c.args.input here.follows tt tt tt tt c.in-Err.ensures.refused c.in-Err.ensures.err)
@@ -25,7 +23,7 @@ returns-in-Err-clause-still c = subst (λ (v : OnCourse). whole c.apply.new.self
 
 pub returns-in-Ok-clause-took : goal.returns-in-Ok-clause-took
 returns-in-Ok-clause-took c given log is s next =
-    let old : OnCourse = record { bench = c.self.inside.bench; rows = rows_in c.self.inside.rows; kept = c.self.inside.kept; told = c.self.inside.told; mode = c.self.inside.mode; news = c.self.inside.news.items; acts = c.self.inside.acts; is_wide = c.self.inside.is_wide; next = option_map Pattern c.self.inside.next } in
+    let old : OnCourse = record { bench = c.self.inside.bench; rows = rows_in c.self.inside.rows; kept = c.self.inside.kept; told = c.self.inside.told; mode = c.self.inside.mode; news = c.self.inside.news.items; acts = c.self.inside.acts; is_wide = c.self.inside.is_wide; next = c.self.inside.next } in
     let here : Stands given log old is = subst (λ (v : OnCourse). Stands given log v is) (sym c.self.view_is) s in
     kept-so c.keep.result given log is old _ c.apply.new.self c.now-tick.result c.args.input here (keeps-inputs c.self.inside.mode (ap (λ (v : OnCourse). v.mode) c.self.view_is ∙ c.requires.keeping)) c.keep.ensures.mode c.keep.ensures.rows c.keep.ensures.acts c.keep.ensures.wide (ap (λ (x : Stored). x.told) c.keep.ensures.told) c.now-tick.ensures.now
     c.in-Ok.ensures.allowed c.in-Ok.ensures.state c.in-Ok.ensures.records c.in-Ok.ensures.back

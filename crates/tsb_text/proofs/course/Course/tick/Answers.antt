@@ -2,7 +2,7 @@ use Rattle.std.proofs.Common.{◌≡◌, ◌∙◌, OnErr, OnOk, ap, subst, sym}
 use Rattle.tsb_bench.specs.Held.{whole}
 use Rattle.tsb_bench.specs.tsb_step.declared.inputs.Input.{Input}
 use Rattle.tsb_bench.specs.tsb_step.declared.inputs.Input.TheVariants.{Tick}
-use Rattle.tsb_text.specs.Answers.{follower, next_tick}
+use Rattle.tsb_text.specs.Answers.{followers, next_tick}
 use Rattle.tsb_text.specs.Obeyed.{IsNext, OnCourse, Stands, Took}
 use Rattle.tsb_text.proofs.recording.OfLogLemmas.{tick-of-log}
 use Rattle.tsb_text.proofs.CourseLemmas.{tick-next, tick-wants}
@@ -22,5 +22,5 @@ returns-clause-wanting c memory =
 
 pub returns-clause-next : goal.returns-clause-next
 returns-clause-next c given log is s =
-    subst (λ (i : Input). OnOk c.take.result (c.take.new.self.next ≡ follower given is i)) (tick-next given log is c.args.self.now c.next_row-row.result s c.next_row-row.ensures.row)
+    subst (λ (i : Input). OnOk c.take.result (c.take.new.self.next ≡ followers given is i)) (tick-next given log is c.args.self.now c.next_row-row.result s c.next_row-row.ensures.row)
     (c.take.ensures.next given log is (subst (λ (v : OnCourse). Stands given log v is) (sym c.next_row-row.ensures.same) s))
