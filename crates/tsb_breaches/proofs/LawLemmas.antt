@@ -6,7 +6,7 @@ use Rattle.tsb_plan.specs.Plan.{Plan}
 use Rattle.tsb_rules.specs.declared.rules.Rule.{Rule}
 use Rattle.tsb_rules.specs.declared.rules.Rule.TheVariants as rules
 use Rattle.tsb_rules.specs.PatternRules.{coordinated_phases_agree, patterns_are_whole, permissive_times_end, splits_fill_cycles, splits_hold_phases}
-use Rattle.tsb_rules.specs.Rules.{are_placed, broken_by_extensions, broken_by_parts, broken_by_phases, broken_by_rings, broken_by_schedule, concurrency_is_symmetric, detectors_call_phases, first_broken, gaps_can_reduce, included_phases_are_enabled, limits_reach_minimums, lists_name_across_rings, maximums_reach_minimums, modifiers_are_right, or_rule, pedestrian_detectors_call_walks, preempts_are_concurrent, preempts_dwell, recalled_pedestrians_walk, some_enabled, unless, unused_lists_are_empty, yellows_are_long}
+use Rattle.tsb_rules.specs.Rules.{are_placed, arrows_are_right, broken_by_extensions, broken_by_overlaps, broken_by_parts, broken_by_phases, broken_by_rings, broken_by_schedule, concurrency_is_symmetric, detectors_call_phases, first_broken, gaps_can_reduce, included_phases_are_enabled, limits_reach_minimums, lists_name_across_rings, maximums_reach_minimums, modifiers_are_right, or_rule, pedestrian_detectors_call_walks, preempts_are_concurrent, preempts_dwell, recalled_pedestrians_walk, some_enabled, trails_are_right, unless, unused_lists_are_empty, yellows_are_long}
 use Rattle.tsb_rules.specs.ScheduleRules.{actions_are_defined, asked_patterns_are_used, day_plans_have_events, events_are_apart}
 use Rattle.tsb_rules.specs.SequenceRules.{first_sequence_is_ordered, other_sequences_are_ordered}
 use Rattle.tsb_breaches.specs.declared.breach.Breach.{Breach}
@@ -16,6 +16,7 @@ use Rattle.tsb_review.specs.declared.place.Place.{Place}
 use Rattle.tsb_breaches.specs.Breaches.{breaches, breaches_of, faults, found, is_at, rule_of, shape}
 use Rattle.tsb_breaches.specs.Laws.{first_rule, of_values}
 use Rattle.tsb_review.specs.Places.{places}
+use Rattle.tsb_breaches.proofs.ArrowLaws.{met-28, met-29}
 use Rattle.tsb_breaches.proofs.CoordinationLaws.{met-20}
 use Rattle.tsb_breaches.proofs.NoneLemmas.{none_at}
 use Rattle.tsb_breaches.proofs.PatternLaws.{met-17, met-18, met-19, met-23}
@@ -67,8 +68,14 @@ or-unless true r next rest = refl
 or-unless false r next rest = refl
 
 -- the first rule that is broken, of those from a number on
+from_29 : Plan → Option Rule
+from_29 plan = unless (trails_are_right plan) rules.K29 None
+
+from_28 : Plan → Option Rule
+from_28 plan = unless (arrows_are_right plan) rules.K28 (from_29 plan)
+
 from_27 : Plan → Option Rule
-from_27 plan = unless (asked_patterns_are_used plan) rules.K27 None
+from_27 plan = unless (asked_patterns_are_used plan) rules.K27 (from_28 plan)
 
 from_26 : Plan → Option Rule
 from_26 plan = unless (actions_are_defined plan) rules.K26 (from_27 plan)
@@ -162,32 +169,56 @@ or-six a b c d e f k l m n o p rest =
     or-unless a k _ rest ∙ ap (unless a k) (or-unless b l _ rest ∙ ap (unless b l) (or-unless c m _ rest ∙ ap (unless c m) (or-unless d n _ rest
     ∙ ap (unless d n) (or-unless e o _ rest ∙ ap (unless e o) (or-unless f p None rest)))))
 
+or-four : (a b c d : Bool) (k l m n : Rule) (rest : Option Rule) →
+    or_rule (unless a k (unless b l (unless c m (unless d n None)))) rest ≡ unless a k (unless b l (unless c m (unless d n rest)))
+or-four a b c d k l m n rest =
+    or-unless a k _ rest ∙ ap (unless a k) (or-unless b l _ rest ∙ ap (unless b l) (or-unless c m _ rest ∙ ap (unless c m) (or-unless d n None rest)))
+
 or-three : (a b c : Bool) (k l m : Rule) (rest : Option Rule) →
     or_rule (unless a k (unless b l (unless c m None))) rest ≡ unless a k (unless b l (unless c m rest))
 or-three a b c k l m rest =
     or-unless a k _ rest ∙ ap (unless a k) (or-unless b l _ rest ∙ ap (unless b l) (or-unless c m None rest))
 
-extensions-in-order : (plan : Plan) → or_rule (broken_by_extensions plan) (broken_by_schedule plan) ≡ from_21 plan
-unfolding broken_by_extensions broken_by_schedule from_21 from_22 from_23 from_24 from_25 from_26 from_27
-extensions-in-order plan =
-    or-three (modifiers_are_right plan) (limits_reach_minimums plan) (permissive_times_end plan) rules.K21 rules.K22 rules.K23 (broken_by_schedule plan)
+-- the first rule that is broken, of the groups from a number on
+late_24 : Plan → Option Rule
+late_24 plan = or_rule (broken_by_schedule plan) (broken_by_overlaps plan)
 
-parts-in-order : (plan : Plan) → or_rule (broken_by_parts plan) (or_rule (broken_by_extensions plan) (broken_by_schedule plan)) ≡ from_14 plan
-unfolding broken_by_parts from_14 from_15 from_16 from_17 from_18 from_19 from_20
+late_21 : Plan → Option Rule
+late_21 plan = or_rule (broken_by_extensions plan) (late_24 plan)
+
+late_14 : Plan → Option Rule
+late_14 plan = or_rule (broken_by_parts plan) (late_21 plan)
+
+late_8 : Plan → Option Rule
+late_8 plan = or_rule (broken_by_phases plan) (late_14 plan)
+
+schedule-in-order : (plan : Plan) → late_24 plan ≡ from_24 plan
+unfolding late_24 broken_by_schedule broken_by_overlaps from_24 from_25 from_26 from_27 from_28 from_29
+schedule-in-order plan =
+    or-four (events_are_apart plan) (day_plans_have_events plan) (actions_are_defined plan) (asked_patterns_are_used plan) rules.K24 rules.K25 rules.K26 rules.K27 (broken_by_overlaps plan)
+
+extensions-in-order : (plan : Plan) → late_21 plan ≡ from_21 plan
+unfolding late_21 broken_by_extensions from_21 from_22 from_23
+extensions-in-order plan =
+    ap (or_rule (broken_by_extensions plan)) (schedule-in-order plan)
+    ∙ or-three (modifiers_are_right plan) (limits_reach_minimums plan) (permissive_times_end plan) rules.K21 rules.K22 rules.K23 (from_24 plan)
+
+parts-in-order : (plan : Plan) → late_14 plan ≡ from_14 plan
+unfolding late_14 broken_by_parts from_14 from_15 from_16 from_17 from_18 from_19 from_20
 parts-in-order plan =
     ap (or_rule (broken_by_parts plan)) (extensions-in-order plan)
     ∙ or-seven (included_phases_are_enabled plan) (preempts_are_concurrent plan) (preempts_dwell plan) (patterns_are_whole plan) (splits_hold_phases plan) (splits_fill_cycles plan) (coordinated_phases_agree plan)
     rules.K14 rules.K15 rules.K16 rules.K17 rules.K18 rules.K19 rules.K20 (from_21 plan)
 
-phases-in-order : (plan : Plan) → or_rule (broken_by_phases plan) (or_rule (broken_by_parts plan) (or_rule (broken_by_extensions plan) (broken_by_schedule plan))) ≡ from_8 plan
-unfolding broken_by_phases from_8 from_9 from_10 from_11 from_12 from_13
+phases-in-order : (plan : Plan) → late_8 plan ≡ from_8 plan
+unfolding late_8 broken_by_phases from_8 from_9 from_10 from_11 from_12 from_13
 phases-in-order plan =
     ap (or_rule (broken_by_phases plan)) (parts-in-order plan)
     ∙ or-six (yellows_are_long plan) (gaps_can_reduce plan) (maximums_reach_minimums plan) (recalled_pedestrians_walk plan) (detectors_call_phases plan) (pedestrian_detectors_call_walks plan)
     rules.K8 rules.K9 rules.K10 rules.K11 rules.K12 rules.K13 (from_14 plan)
 
 in-order : (plan : Plan) → first_broken plan ≡ from_1 plan
-unfolding first_broken broken_by_rings from_1 from_2 from_3 from_4 from_5 from_6 from_7
+unfolding first_broken late_8 late_14 late_21 late_24 broken_by_rings from_1 from_2 from_3 from_4 from_5 from_6 from_7
 in-order plan =
     ap (or_rule (broken_by_rings plan)) (phases-in-order plan)
     ∙ or-seven (some_enabled plan) (are_placed plan) (unused_lists_are_empty plan) (lists_name_across_rings plan) (concurrency_is_symmetric plan) (first_sequence_is_ordered plan) (other_sequences_are_ordered plan)
@@ -195,8 +226,14 @@ in-order plan =
 
 -- ## Rules and the ways to break them, from the last on
 
+ways_29 : List RuleFault
+ways_29 = at.K29Yellow ∷ at.K29Type ∷ []
+
+ways_28 : List RuleFault
+ways_28 = at.K28Empty ∷ at.K28Turns ∷ at.K28Together ∷ ways_29
+
 ways_27 : List RuleFault
-ways_27 = at.K27Number ∷ at.K27Unused ∷ []
+ways_27 = at.K27Number ∷ at.K27Unused ∷ ways_28
 
 ways_26 : List RuleFault
 ways_26 = at.K26 ∷ ways_27
@@ -276,11 +313,24 @@ ways_2 = at.K2Ring ∷ at.K2Side ∷ ways_3
 ways_1 : List RuleFault
 ways_1 = at.K1 ∷ ways_2
 
+met-from-29 : (v : Object → ℕ → ℕ) → chain (of_values v) ways_29 ≡ from_29 (of_values v)
+unfolding chain ways_29 from_29
+met-from-29 v =
+    unless-and (none_at (of_values v) at.K29Yellow) (none_at (of_values v) at.K29Type) rules.K29 None
+    ∙ step ((none_at (of_values v) at.K29Yellow) && (none_at (of_values v) at.K29Type)) (trails_are_right (of_values v)) rules.K29 None None (met-29 v) (λ m. refl)
+
+met-from-28 : (v : Object → ℕ → ℕ) → chain (of_values v) ways_28 ≡ from_28 (of_values v)
+unfolding chain ways_28 from_28
+met-from-28 v =
+    join (none_at (of_values v) at.K28Empty) ((none_at (of_values v) at.K28Turns) && (none_at (of_values v) at.K28Together)) rules.K28 (chain (of_values v) ways_29) (unless (none_at (of_values v) at.K28Turns) rules.K28 (unless (none_at (of_values v) at.K28Together) rules.K28 (chain (of_values v) ways_29)))
+    (unless-and (none_at (of_values v) at.K28Turns) (none_at (of_values v) at.K28Together) rules.K28 (chain (of_values v) ways_29))
+    ∙ step ((none_at (of_values v) at.K28Empty) && ((none_at (of_values v) at.K28Turns) && (none_at (of_values v) at.K28Together))) (arrows_are_right (of_values v)) rules.K28 (chain (of_values v) ways_29) (from_29 (of_values v)) (met-28 v) (λ m. met-from-29 v)
+
 met-from-27 : (v : Object → ℕ → ℕ) → chain (of_values v) ways_27 ≡ from_27 (of_values v)
 unfolding chain ways_27 from_27
 met-from-27 v =
-    unless-and (none_at (of_values v) at.K27Number) (none_at (of_values v) at.K27Unused) rules.K27 None
-    ∙ step ((none_at (of_values v) at.K27Number) && (none_at (of_values v) at.K27Unused)) (asked_patterns_are_used (of_values v)) rules.K27 None None (met-27 v) (λ m. refl)
+    unless-and (none_at (of_values v) at.K27Number) (none_at (of_values v) at.K27Unused) rules.K27 (chain (of_values v) ways_28)
+    ∙ step ((none_at (of_values v) at.K27Number) && (none_at (of_values v) at.K27Unused)) (asked_patterns_are_used (of_values v)) rules.K27 (chain (of_values v) ways_28) (from_28 (of_values v)) (met-27 v) (λ m. met-from-28 v)
 
 met-from-26 : (v : Object → ℕ → ℕ) → chain (of_values v) ways_26 ≡ from_26 (of_values v)
 unfolding chain ways_26 from_26
@@ -445,7 +495,7 @@ met-from-1 v =
     step (none_at (of_values v) at.K1) (some_enabled (of_values v)) rules.K1 (chain (of_values v) ways_2) (from_2 (of_values v)) (met-1 (of_values v)) (λ m. met-from-2 v)
 
 all-ways : faults ≡ ways_1
-unfolding faults ways_1 ways_2 ways_3 ways_4 ways_5 ways_6 ways_7 ways_8 ways_9 ways_10 ways_11 ways_12 ways_13 ways_14 ways_15 ways_16 ways_17 ways_18 ways_19 ways_20 ways_21 ways_22 ways_23 ways_24 ways_25 ways_26 ways_27
+unfolding faults ways_1 ways_2 ways_3 ways_4 ways_5 ways_6 ways_7 ways_8 ways_9 ways_10 ways_11 ways_12 ways_13 ways_14 ways_15 ways_16 ways_17 ways_18 ways_19 ways_20 ways_21 ways_22 ways_23 ways_24 ways_25 ways_26 ways_27 ways_28 ways_29
 all-ways = refl
 
 pub first-is : (v : Object → ℕ → ℕ) → first_rule (breaches (of_values v)) ≡ first_broken (of_values v)

@@ -6,6 +6,7 @@ pub mod PreemptLaws
 pub mod PatternLaws
 pub mod CoordinationLaws
 pub mod ScheduleLaws
+pub mod ArrowLaws
 pub mod LawLemmas
 pub mod Examples
 pub use Rattle.tsb_plan.proofs as tsb_plan

@@ -7,8 +7,8 @@ use Rattle.tsb_types.specs.Lists.{run_from}
 use Rattle.tsb_breaches.specs.declared.fault.RuleFault.{RuleFault}
 use Rattle.tsb_review.specs.declared.place.Shape.{Shape}
 use Rattle.tsb_review.specs.declared.place.Shape.TheVariants as shapes
-use Rattle.tsb_breaches.specs.Breaches.{is_at, shape, of_phase, of_phases, of_listing, of_sequence_phase, of_pedestrian_detector, of_overlap_phase, of_preempt, of_preempt_phase, of_preempt_phases, of_pattern, of_pattern_phase, of_pattern_phases, of_pattern_side, of_pattern_ring, of_action}
-use Rattle.tsb_breaches.specs.Lists.{calls_unused, modifies_nothing}
+use Rattle.tsb_breaches.specs.Breaches.{is_at, shape, of_phase, of_phases, of_listing, of_sequence_phase, of_pedestrian_detector, of_overlap, of_overlap_phase, of_preempt, of_preempt_phase, of_preempt_phases, of_pattern, of_pattern_phase, of_pattern_phases, of_pattern_side, of_pattern_ring, of_action}
+use Rattle.tsb_breaches.specs.Lists.{calls_unused}
 use Rattle.tsb_breaches.specs.Phases.{has_no_phase}
 use Rattle.tsb_breaches.specs.Schedules.{come_together, names_undefined, runs_nothing}
 use Rattle.tsb_review.specs.Places.{places}
@@ -49,7 +49,7 @@ none-detector plan f = all-singles shapes.Detector (λ place. not (is_at plan f 
 pub none-pedestrian_detector : (plan : Plan) (f : RuleFault) → none_of plan f shapes.PedestrianDetector ≡ none_up_to PEDESTRIAN_DETECTORS (of_pedestrian_detector plan f)
 none-pedestrian_detector plan f = all-singles shapes.PedestrianDetector (λ place. not (is_at plan f place)) refl refl
 
-pub none-overlap : (plan : Plan) (f : RuleFault) → none_of plan f shapes.Overlap ≡ none_up_to OVERLAPS (modifies_nothing plan)
+pub none-overlap : (plan : Plan) (f : RuleFault) → none_of plan f shapes.Overlap ≡ none_up_to OVERLAPS (of_overlap plan f)
 none-overlap plan f = all-singles shapes.Overlap (λ place. not (is_at plan f place)) refl refl
 
 pub none-overlap_phase : (plan : Plan) (f : RuleFault) → none_of plan f shapes.OverlapPhase ≡ list_all (λ o. none_up_to 16 (of_overlap_phase plan f o)) (run_from 1 OVERLAPS)

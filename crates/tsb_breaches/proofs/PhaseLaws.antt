@@ -3,8 +3,8 @@ use Rattle.std.proofs.Common.{◌≡◌, ◌∙◌, ℕ, ◌==◌, nat_le, Bool,
 use Rattle.std.proofs.Math.Bool.{not-not}
 use Rattle.std.specs.List.{list_all}
 use Rattle.tsb_plan.specs.declared.object.Object.{Object}
-use Rattle.tsb_plan.specs.declared.object.Object.TheVariants.{PhaseMinimumGreen, PhaseMaximum1, PhaseMaximum2, OverlapIncludedPhases, OverlapModifierPhases, PreemptTrackPhase, PreemptDwellPhase, PreemptExitPhase, PhaseConcurrency}
-use Rattle.tsb_plan.specs.Parts.{call_phase, pedestrian_call_phase, is_minus_green_yellow}
+use Rattle.tsb_plan.specs.declared.object.Object.TheVariants.{PhaseMinimumGreen, PhaseMaximum1, PhaseMaximum2, OverlapIncludedPhases, OverlapModifierPhases, OverlapType, PreemptTrackPhase, PreemptDwellPhase, PreemptExitPhase, PhaseConcurrency}
+use Rattle.tsb_plan.specs.Parts.{call_phase, pedestrian_call_phase}
 use Rattle.tsb_plan.specs.Plan.{Plan, is_enabled, has_pedestrian_recall, ring_of, side_of, is_concurrent, minimum_green, minimum_gap, passage, yellow_change, dynamic_maximum_limit}
 use Rattle.tsb_rules.specs.PatternRules.{some_and}
 use Rattle.tsb_rules.specs.Rules.{some_enabled, are_placed, is_placed, unused_lists_are_empty, may_be_concurrent, names_across_rings, lists_name_across_rings, is_named_back, concurrency_is_symmetric, yellows_are_long, gaps_can_reduce, maximums_reach_minimums, reaches_minimum, has_walk, recalled_pedestrians_walk, none_or, detectors_call_phases, serves_pedestrians, pedestrian_detectors_call_walks, names_enabled, included_phases_are_enabled, dwells_or_is_empty, preempts_dwell, modifies_rightly, modifiers_are_right, limits_reach_minimums}
@@ -189,4 +189,4 @@ met-21 v =
     let plan : Plan = of_values v in
     and-both (none-overlap_phase plan K21Unused) (none-overlap plan K21Type)
     ∙ both-are (λ o. none_up_to 16 (lists_unused plan OverlapModifierPhases o)) (λ o. not (modifies_nothing plan o)) (modifies_rightly plan)
-    (λ o. and-both (all-enabled v OverlapModifierPhases o) (neither (is_minus_green_yellow plan o) (v OverlapModifierPhases o == 0))) (run_from 1 OVERLAPS)
+    (λ o. and-both (all-enabled v OverlapModifierPhases o) (implied (v OverlapType o == 0) (v OverlapModifierPhases o == 0))) (run_from 1 OVERLAPS)

@@ -9,7 +9,7 @@ use Rattle.tsb_rules.specs.declared.rules.Rule.TheVariants as rules
 use Rattle.tsb_rules.specs.PatternRules.{some_and}
 use Rattle.tsb_breaches.specs.declared.breach.Breach.{Breach}
 use Rattle.tsb_breaches.specs.declared.fault.RuleFault.{RuleFault}
-use Rattle.tsb_breaches.specs.declared.fault.RuleFault.TheVariants.{K1, K2Ring, K2Side, K3, K4Unused, K4Ring, K4Side, K5, K6Unused, K6Ring, K6Missing, K6Again, K6Side, K6Gap, K7Unused, K7Ring, K7Missing, K7Again, K7Side, K7Gap, K8, K9, K10Maximum1, K10Maximum2, K11, K12, K13Unused, K13Walk, K14, K15TrackUnused, K15DwellUnused, K15ExitUnused, K15Track, K15Dwell, K15Exit, K16Track, K16Exit, K17Offset, K17Split, K17Sequence, K17Blank, K18, K19Rings, K19Cycle, K20None, K20Unused, K20Omitted, K20Sides, K20Apart, K20Ends, K20Ring, K21Unused, K21Type, K22, K23, K24, K25, K26, K27Number, K27Unused}
+use Rattle.tsb_breaches.specs.declared.fault.RuleFault.TheVariants.{K1, K2Ring, K2Side, K3, K4Unused, K4Ring, K4Side, K5, K6Unused, K6Ring, K6Missing, K6Again, K6Side, K6Gap, K7Unused, K7Ring, K7Missing, K7Again, K7Side, K7Gap, K8, K9, K10Maximum1, K10Maximum2, K11, K12, K13Unused, K13Walk, K14, K15TrackUnused, K15DwellUnused, K15ExitUnused, K15Track, K15Dwell, K15Exit, K16Track, K16Exit, K17Offset, K17Split, K17Sequence, K17Blank, K18, K19Rings, K19Cycle, K20None, K20Unused, K20Omitted, K20Sides, K20Apart, K20Ends, K20Ring, K21Unused, K21Type, K22, K23, K24, K25, K26, K27Number, K27Unused, K28Empty, K28Turns, K28Together, K29Yellow, K29Type}
 use Rattle.tsb_breaches.specs.declared.fault.TheConstants.RuleFault.{ALL}
 use Rattle.tsb_review.specs.declared.place.Place.{Place}
 use Rattle.tsb_review.specs.declared.place.Place.TheVariants as at
@@ -17,7 +17,7 @@ use Rattle.tsb_review.specs.declared.place.Shape.{Shape}
 use Rattle.tsb_review.specs.declared.place.Shape.TheVariants as shapes
 use Rattle.tsb_breaches.specs.Phases.{has_no_phase, has_no_ring, has_no_side, keeps_list, names_unused, names_same_ring, names_other_side, is_not_named_back, has_short_yellow, has_long_gap, is_under_minimum, recalls_no_walk, has_low_limit}
 use Rattle.tsb_breaches.specs.Sequences.{is_first, is_other, lists_unused as place_lists_unused, lists_other_ring, lists_again, falls, leaves_gap, is_missing}
-use Rattle.tsb_breaches.specs.Lists.{calls_unused, button_calls_unused, button_calls_no_walk, lists_unused, lists_apart, has_no_dwell, modifies_nothing}
+use Rattle.tsb_breaches.specs.Lists.{calls_unused, button_calls_unused, button_calls_no_walk, lists_unused, lists_apart, has_no_dwell, modifies_nothing, points_nowhere, turns_otherwise, turns_with, trails_shortly, trails_otherwise}
 use Rattle.tsb_breaches.specs.Patterns.{has_late_offset, has_no_split, has_no_sequence, has_blank_sequence, table_of, is_too_short, has_two_sums, misses_cycle, coordinates_none, coordinates_unused, coordinates_omitted, are_across, are_apart, end_apart, has_wrong_count, permits_always}
 use Rattle.tsb_breaches.specs.Schedules.{asks_for_no_pattern, asks_for_unused, come_together, names_undefined, runs_nothing}
 use Rattle.tsb_review.specs.Places.{places}
@@ -88,6 +88,11 @@ rule_of K25 = rules.K25
 rule_of K26 = rules.K26
 rule_of K27Number = rules.K27
 rule_of K27Unused = rules.K27
+rule_of K28Empty = rules.K28
+rule_of K28Turns = rules.K28
+rule_of K28Together = rules.K28
+rule_of K29Yellow = rules.K29
+rule_of K29Type = rules.K29
 
 -- the kind of the places at which it is
 abbrev pub shape : RuleFault → Shape
@@ -151,6 +156,11 @@ shape K25 = shapes.Entry
 shape K26 = shapes.DayEvent
 shape K27Number = shapes.Action
 shape K27Unused = shapes.Action
+shape K28Empty = shapes.Overlap
+shape K28Turns = shapes.Overlap
+shape K28Together = shapes.OverlapPhase
+shape K29Yellow = shapes.Overlap
+shape K29Type = shapes.Overlap
 
 -- it is there at phase p
 abbrev pub of_phase : Plan → RuleFault → ℕ → Bool
@@ -217,10 +227,20 @@ of_pedestrian_detector plan K13Unused d = button_calls_unused plan d
 of_pedestrian_detector plan K13Walk d = button_calls_no_walk plan d
 of_pedestrian_detector plan f d = false
 
+-- overlap o has it
+abbrev pub of_overlap : Plan → RuleFault → ℕ → Bool
+of_overlap plan K21Type o = modifies_nothing plan o
+of_overlap plan K28Empty o = points_nowhere plan o
+of_overlap plan K28Turns o = turns_otherwise plan o
+of_overlap plan K29Yellow o = trails_shortly plan o
+of_overlap plan K29Type o = trails_otherwise plan o
+of_overlap plan f o = false
+
 -- it is there at overlap o, for phase p
 abbrev pub of_overlap_phase : Plan → RuleFault → ℕ → ℕ → Bool
 of_overlap_phase plan K14 o p = lists_unused plan OverlapIncludedPhases o p
 of_overlap_phase plan K21Unused o p = lists_unused plan OverlapModifierPhases o p
+of_overlap_phase plan K28Together o p = turns_with plan o p
 of_overlap_phase plan f o p = false
 
 -- it is there at preempt m
@@ -303,7 +323,7 @@ is_at plan f (at.Listing s r k) = of_listing plan f s r k
 is_at plan f (at.SequencePhase s r p) = of_sequence_phase plan f s r p
 is_at plan f (at.Detector d) = calls_unused plan d
 is_at plan f (at.PedestrianDetector d) = of_pedestrian_detector plan f d
-is_at plan f (at.Overlap o) = modifies_nothing plan o
+is_at plan f (at.Overlap o) = of_overlap plan f o
 is_at plan f (at.OverlapPhase o p) = of_overlap_phase plan f o p
 is_at plan f (at.Preempt m) = of_preempt plan f m
 is_at plan f (at.PreemptPhase m p) = of_preempt_phase plan f m p

@@ -3,16 +3,17 @@
 use Rattle.std.specs.Prelude.{ℕ, ◌/◌, ◌%◌, Option, Some, None}
 use Rattle.tsb_plan.specs.declared.object.Object.TheVariants.{PhaseConcurrency, PhaseMinimumGreen, PhaseMaximum1, PhaseMaximum2, PatternSplitNumber, PatternSequenceNumber, OverlapType}
 use Rattle.tsb_types.specs.Lists.{or_number}
-use Rattle.tsb_plan.specs.Parts.{call_phase, pedestrian_call_phase, cycle, offset, permissive_time, split_of, sequence_of, split_time}
+use Rattle.tsb_plan.specs.Parts.{call_phase, pedestrian_call_phase, cycle, offset, permissive_time, split_of, sequence_of, split_time, trail_yellow}
 use Rattle.tsb_plan.specs.Schedule.{action_of, asked_by, day_plan_of, time_of}
 use Rattle.tsb_plan.specs.Plan.{Plan, ring_of, side_of, yellow_change, minimum_gap, passage, minimum_green, dynamic_maximum_limit}
 use Rattle.tsb_rules.specs.PatternRules.{split_sum, split_end, coordinated_count}
 use Rattle.tsb_review.specs.declared.numbers.Numbers.{Numbers}
 use Rattle.tsb_breaches.specs.declared.breach.Breach.{Breach}
 use Rattle.tsb_breaches.specs.declared.fault.RuleFault.{RuleFault}
-use Rattle.tsb_breaches.specs.declared.fault.RuleFault.TheVariants.{K2Ring, K2Side, K3, K4Ring, K4Side, K6Ring, K6Side, K6Gap, K7Ring, K7Side, K7Gap, K8, K9, K10Maximum1, K10Maximum2, K17Offset, K17Split, K17Sequence, K17Blank, K18, K19Cycle, K20Sides, K20Ends, K22, K23}
+use Rattle.tsb_breaches.specs.declared.fault.RuleFault.TheVariants.{K2Ring, K2Side, K3, K4Ring, K4Side, K6Ring, K6Side, K6Gap, K7Ring, K7Side, K7Gap, K8, K9, K10Maximum1, K10Maximum2, K17Offset, K17Split, K17Sequence, K17Blank, K18, K19Cycle, K20Sides, K20Ends, K22, K23, K28Turns, K29Yellow}
 use Rattle.tsb_review.specs.declared.place.Place.{Place}
 use Rattle.tsb_review.specs.declared.place.Place.TheVariants as at
+use Rattle.tsb_breaches.specs.Lists.{turns_of}
 use Rattle.tsb_breaches.specs.Patterns.{least_split, sides_time}
 use Rattle.tsb_breaches.specs.Sequences.{listed, listed_next, lower_behind}
 
@@ -94,6 +95,12 @@ of_pattern_side plan n d = five n d (sum_in plan n 1 d) (sum_in plan n 2 d) 0
 abbrev pub of_pattern_ring : Plan → ℕ → ℕ → Numbers
 of_pattern_ring plan n r = five n r (in_table (split_of plan n) (λ t. coordinated_count plan t r)) 0 0
 
+-- of an overlap: its number, and how many modifier phases it has, its trailing yellow, or its type
+abbrev pub of_overlap : Plan → RuleFault → ℕ → Numbers
+of_overlap plan K28Turns o = five o (turns_of plan o) 0 0 0
+of_overlap plan K29Yellow o = five o (trail_yellow plan o) 0 0 0
+of_overlap plan f o = five o (plan.value OverlapType o) 0 0 0
+
 -- of two events of a day plan: all three, and the hour and minute of the first
 abbrev pub of_events : Plan → ℕ → ℕ → ℕ → Numbers
 of_events plan d j k = five d j k (time_of plan d j / 60) (time_of plan d j % 60)
@@ -107,7 +114,7 @@ at_place plan f (at.Listing s r k) = of_listing plan f s r k
 at_place plan f (at.SequencePhase s r p) = five s r p 0 0
 at_place plan f (at.Detector d) = five d (number_of (call_phase plan d)) 0 0 0
 at_place plan f (at.PedestrianDetector d) = five d (number_of (pedestrian_call_phase plan d)) 0 0 0
-at_place plan f (at.Overlap o) = five o (plan.value OverlapType o) 0 0 0
+at_place plan f (at.Overlap o) = of_overlap plan f o
 at_place plan f (at.OverlapPhase o p) = five o p 0 0 0
 at_place plan f (at.Preempt m) = five m 0 0 0 0
 at_place plan f (at.PreemptPhase m p) = five m p 0 0 0

@@ -3,7 +3,7 @@
 
 ghost use Rattle.std.specs.Prelude.{◌≡◌};
 ghost use Rattle.tsb_plan.specs.PlanOf.{plan_of};
-ghost use Rattle.tsb_breaches.specs.Breaches.{is_at, of_phase, of_phases, asks_of, is_listed_wrongly, of_listing, of_sequence_phase, of_pedestrian_detector, of_overlap_phase, of_preempt, of_preempt_phase, of_preempt_phases, of_table, of_pattern, of_split, of_pattern_phase, of_splits, of_pattern_phases, of_pattern_side, of_pattern_ring, of_action};
+ghost use Rattle.tsb_breaches.specs.Breaches.{is_at, of_phase, of_phases, asks_of, is_listed_wrongly, of_listing, of_sequence_phase, of_pedestrian_detector, of_overlap, of_overlap_phase, of_preempt, of_preempt_phase, of_preempt_phases, of_table, of_pattern, of_split, of_pattern_phase, of_splits, of_pattern_phases, of_pattern_side, of_pattern_ring, of_action};
 ghost use Rattle.tsb_rules.specs.PatternRules.{some_and};
 ghost use Rattle.tsb_breaches.specs.Patterns.{table_of};
 ghost use Rattle.tsb_breaches.specs.Found.{breach_at};
@@ -54,7 +54,7 @@ pub fn is_at(plan: &Plan, fault: RuleFault, place: &Place) -> bool
         }
         Place::Detector(detector) => lists::calls_unused(plan, *detector),
         Place::PedestrianDetector(detector) => of_pedestrian_detector(plan, fault, *detector),
-        Place::Overlap(overlap) => lists::modifies_nothing(plan, *overlap),
+        Place::Overlap(overlap) => of_overlap(plan, fault, *overlap),
         Place::OverlapPhase(overlap, phase) => of_overlap_phase(plan, fault, *overlap, *phase),
         Place::Preempt(preempt) => of_preempt(plan, fault, *preempt),
         Place::PreemptPhase(preempt, phase) => of_preempt_phase(plan, fault, *preempt, *phase),
@@ -193,6 +193,20 @@ fn of_pedestrian_detector(plan: &Plan, fault: RuleFault, detector: PedestrianDet
     }
 }
 
+/// Whether the overlap has it.
+fn of_overlap(plan: &Plan, fault: RuleFault, overlap: Overlap) -> bool
+    ensures { result ≡ of_overlap (plan_of plan.now) fault overlap }
+{
+    match fault {
+        RuleFault::K21Type => lists::modifies_nothing(plan, overlap),
+        RuleFault::K28Empty => lists::points_nowhere(plan, overlap),
+        RuleFault::K28Turns => lists::turns_otherwise(plan, overlap),
+        RuleFault::K29Yellow => lists::trails_shortly(plan, overlap),
+        RuleFault::K29Type => lists::trails_otherwise(plan, overlap),
+        _ => false,
+    }
+}
+
 /// Whether it is there at the overlap, for the phase.
 fn of_overlap_phase(plan: &Plan, fault: RuleFault, overlap: Overlap, phase: Phase) -> bool
     ensures { result ≡ of_overlap_phase (plan_of plan.now) fault overlap phase }
@@ -206,6 +220,7 @@ fn of_overlap_phase(plan: &Plan, fault: RuleFault, overlap: Overlap, phase: Phas
             index,
             phase,
         ),
+        RuleFault::K28Together => lists::turns_with(plan, overlap, phase),
         _ => false,
     }
 }

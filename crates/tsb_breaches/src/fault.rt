@@ -132,11 +132,21 @@ pub enum RuleFault {
     K27Number,
     /// An action asks for a pattern that is not used.
     K27Unused,
+    /// An arrow includes no phase.
+    K28Empty,
+    /// An arrow has no modifier phase, or several.
+    K28Turns,
+    /// The modifier phase of an arrow is a phase that it includes, or concurrent with it.
+    K28Together,
+    /// The trailing yellow of an overlap is over 0 and under 30, or 0 where it trails.
+    K29Yellow,
+    /// An overlap that trails is not normal.
+    K29Type,
 }
 
 impl RuleFault {
     /// All of them, in order.
-    pub const ALL: [RuleFault; 60] = [
+    pub const ALL: [RuleFault; 65] = [
         RuleFault::K1,
         RuleFault::K2Ring,
         RuleFault::K2Side,
@@ -197,6 +207,11 @@ impl RuleFault {
         RuleFault::K26,
         RuleFault::K27Number,
         RuleFault::K27Unused,
+        RuleFault::K28Empty,
+        RuleFault::K28Turns,
+        RuleFault::K28Together,
+        RuleFault::K29Yellow,
+        RuleFault::K29Type,
     ];
 
     /// The rule that is broken.
@@ -255,6 +270,8 @@ impl RuleFault {
             RuleFault::K25 => Rule::K25,
             RuleFault::K26 => Rule::K26,
             RuleFault::K27Number | RuleFault::K27Unused => Rule::K27,
+            RuleFault::K28Empty | RuleFault::K28Turns | RuleFault::K28Together => Rule::K28,
+            RuleFault::K29Yellow | RuleFault::K29Type => Rule::K29,
         }
     }
 
@@ -288,7 +305,7 @@ impl RuleFault {
             RuleFault::K6Missing | RuleFault::K7Missing => Shape::SequencePhase,
             RuleFault::K12 => Shape::Detector,
             RuleFault::K13Unused | RuleFault::K13Walk => Shape::PedestrianDetector,
-            RuleFault::K14 | RuleFault::K21Unused => Shape::OverlapPhase,
+            RuleFault::K14 | RuleFault::K21Unused | RuleFault::K28Together => Shape::OverlapPhase,
             RuleFault::K15TrackUnused | RuleFault::K15DwellUnused | RuleFault::K15ExitUnused =>
                 Shape::PreemptPhase,
             RuleFault::K15Track | RuleFault::K15Dwell | RuleFault::K15Exit => Shape::PreemptPhases,
@@ -304,7 +321,11 @@ impl RuleFault {
             RuleFault::K19Rings => Shape::PatternSide,
             RuleFault::K20Sides | RuleFault::K20Apart | RuleFault::K20Ends => Shape::PatternPhases,
             RuleFault::K20Ring => Shape::PatternRing,
-            RuleFault::K21Type => Shape::Overlap,
+            RuleFault::K21Type
+            | RuleFault::K28Empty
+            | RuleFault::K28Turns
+            | RuleFault::K29Yellow
+            | RuleFault::K29Type => Shape::Overlap,
             RuleFault::K24 => Shape::DayEvents,
             RuleFault::K25 => Shape::Entry,
             RuleFault::K26 => Shape::DayEvent,

@@ -1,12 +1,15 @@
-//! What of detectors, overlaps and preempts breaks a rule: K12 to K16 and K21.
+//! What of detectors, overlaps and preempts breaks a rule: K12 to K16, K21, K28
+//! and K29.
 #![tactic(auto, unfolding(tsb_plan::specs::PlanOf::plan_of))]
 
 ghost use Rattle.std.specs.Prelude.{◌≡◌, ◌&&◌, true};
 ghost use Rattle.tsb_types.specs.declared.limits.TheConstants.{PREEMPTS};
 ghost use Rattle.tsb_plan.specs.Objects.{has_index, indices};
 ghost use Rattle.tsb_plan.specs.PlanOf.{plan_of};
+ghost use Rattle.std.specs.List.{list_any};
+ghost use Rattle.tsb_types.specs.Lists.{run_from};
 ghost use Rattle.tsb_types.specs.Sets.{names};
-ghost use Rattle.tsb_breaches.specs.Lists.{calls_unused, has_no_walk, button_calls_unused, button_calls_no_walk, lists_unused, lists_used, go_together, lists_apart, has_no_dwell, modifies_nothing};
+ghost use Rattle.tsb_breaches.specs.Lists.{calls_unused, has_no_walk, button_calls_unused, button_calls_no_walk, lists_unused, lists_used, go_together, lists_apart, has_no_dwell, modifies_nothing, points, points_nowhere, turns_of, turns_otherwise, is_turn_with, turns_with, trails_shortly, trails_otherwise};
 
 use crate::phases::has_walk;
 use tsb_plan::{Object, Plan};
@@ -106,10 +109,90 @@ pub(crate) fn has_no_dwell(plan: &Plan, object: Object, preempt: Preempt) -> boo
     plan.at(Object::PreemptDwellPhase, index) == 0 && plan.at(object, index) != 0
 }
 
-/// Whether the overlap is not minusGreenYellow, and has modifier phases.
+/// Whether the overlap is normal, and has modifier phases.
 pub(crate) fn modifies_nothing(plan: &Plan, overlap: Overlap) -> bool
     ensures { result ≡ modifies_nothing (plan_of plan.now) overlap }
 {
-    !plan.is_minus_green_yellow(overlap)
+    plan.at(Object::OverlapType, u32::from(overlap.number())) == 0
         && plan.at(Object::OverlapModifierPhases, u32::from(overlap.number())) != 0
+}
+
+/// Whether the overlap is of type 2.
+fn points(plan: &Plan, overlap: Overlap) -> bool
+    ensures { result ≡ points (plan_of plan.now) overlap }
+{
+    plan.at(Object::OverlapType, u32::from(overlap.number())) == 2
+}
+
+/// Whether it is an arrow that includes no phase.
+pub(crate) fn points_nowhere(plan: &Plan, overlap: Overlap) -> bool
+    ensures { result ≡ points_nowhere (plan_of plan.now) overlap }
+{
+    points(plan, overlap) && plan.includes_none(overlap)
+}
+
+/// How many modifier phases the overlap has.
+#[tactic(auto, unfolding(tsb_plan::specs::PlanOf::plan_of, crate::specs::Lists::turns_of))]
+pub(crate) fn turns_of(plan: &Plan, overlap: Overlap) -> u32
+    ensures { result ≡ turns_of (plan_of plan.now) overlap }
+{
+    let turns = plan.modifier_phases(overlap);
+    let phases = Phase::all();
+    let mut count = 0;
+    for phase in &phases {
+        if turns.contains(*phase) {
+            count += 1;
+        }
+    }
+    count
+}
+
+/// Whether it is an arrow with no modifier phase, or several.
+pub(crate) fn turns_otherwise(plan: &Plan, overlap: Overlap) -> bool
+    ensures { result ≡ turns_otherwise (plan_of plan.now) overlap }
+{
+    points(plan, overlap) && turns_of(plan, overlap) != 1
+}
+
+/// Whether this is a modifier phase of the overlap, and is the phase or concurrent with it.
+fn is_turn_with(plan: &Plan, overlap: Overlap, phase: Phase, turn: Phase) -> bool
+    ensures { result ≡ is_turn_with (plan_of plan.now) overlap phase turn }
+{
+    plan.modifier_phases(overlap).contains(turn)
+        && (phase == turn || plan.concurrency(turn).contains(phase))
+}
+
+/// Whether a modifier phase of the overlap is the phase or concurrent with it.
+fn some_turn_with(plan: &Plan, overlap: Overlap, phase: Phase) -> bool
+    ensures { result ≡ list_any (is_turn_with (plan_of plan.now) overlap phase) (run_from 1 16) }
+{
+    Phase::all()
+        .iter()
+        .any(|turn| is_turn_with(plan, overlap, phase, *turn))
+}
+
+/// Whether it is an arrow that includes the phase, and a modifier phase of it is that phase or concurrent with it.
+pub(crate) fn turns_with(plan: &Plan, overlap: Overlap, phase: Phase) -> bool
+    ensures { result ≡ turns_with (plan_of plan.now) overlap phase }
+{
+    points(plan, overlap)
+        && plan.included_phases(overlap).contains(phase)
+        && some_turn_with(plan, overlap, phase)
+}
+
+/// Whether the trailing yellow of the overlap is over 0 and under 30, or 0 where it trails.
+pub(crate) fn trails_shortly(plan: &Plan, overlap: Overlap) -> bool
+    ensures { result ≡ trails_shortly (plan_of plan.now) overlap }
+{
+    let index = u32::from(overlap.number());
+    let yellow = plan.at(Object::OverlapTrailYellow, index);
+    yellow < 30 && (yellow != 0 || plan.at(Object::OverlapTrailGreen, index) != 0)
+}
+
+/// Whether the overlap trails, and is not normal.
+pub(crate) fn trails_otherwise(plan: &Plan, overlap: Overlap) -> bool
+    ensures { result ≡ trails_otherwise (plan_of plan.now) overlap }
+{
+    let index = u32::from(overlap.number());
+    plan.at(Object::OverlapTrailGreen, index) != 0 && plan.at(Object::OverlapType, index) != 0
 }

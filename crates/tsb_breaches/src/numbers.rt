@@ -3,17 +3,18 @@
 #![tactic(auto, unfolding(tsb_plan::specs::PlanOf::plan_of))]
 
 ghost use Rattle.std.specs.Prelude.{◌≡◌};
-ghost use Rattle.tsb_plan.specs.declared.object.Object.TheVariants.{OverlapType, PhaseMinimumGreen};
+ghost use Rattle.tsb_plan.specs.declared.object.Object.TheVariants.{PhaseMinimumGreen};
 ghost use Rattle.tsb_plan.specs.Objects.{indices};
 ghost use Rattle.tsb_plan.specs.Parts.{call_phase, pedestrian_call_phase, sequence_of, split_of, split_time};
 ghost use Rattle.tsb_plan.specs.PlanOf.{plan_of};
 ghost use Rattle.tsb_plan.specs.Schedule.{action_of, asked_by, day_plan_of};
 ghost use Rattle.tsb_rules.specs.PatternRules.{coordinated_count, split_end};
 ghost use Rattle.tsb_breaches.specs.Patterns.{sides_time};
-ghost use Rattle.tsb_breaches.specs.Numbers.{five, number_of, in_table, end_in, of_phase, of_phases, of_listing, of_pattern, of_pattern_phase, of_pattern_phases, sum_in, of_pattern_side, of_pattern_ring, of_events, at_place, numbers_of};
+ghost use Rattle.tsb_breaches.specs.Numbers.{five, number_of, in_table, end_in, of_phase, of_phases, of_listing, of_overlap, of_pattern, of_pattern_phase, of_pattern_phases, sum_in, of_pattern_side, of_pattern_ring, of_events, at_place, numbers_of};
 
 use crate::breach::Breach;
 use crate::fault::RuleFault;
+use crate::lists::turns_of;
 use crate::patterns::{least_split, sides_time};
 use crate::sequences::{listed, listed_next, lower_behind, ring_of_number};
 use crate::sums::{coordinated_count, split_sum};
@@ -76,7 +77,7 @@ fn at_place(plan: &Plan, fault: RuleFault, place: &Place) -> Numbers
         }
         Place::Detector(detector) => of_detector(plan, *detector),
         Place::PedestrianDetector(detector) => of_pedestrian_detector(plan, *detector),
-        Place::Overlap(overlap) => of_overlap(plan, *overlap),
+        Place::Overlap(overlap) => of_overlap(plan, fault, *overlap),
         Place::OverlapPhase(overlap, phase) => three(overlap.number(), phase.number(), 0),
         Place::Preempt(preempt) => three(preempt.number(), 0, 0),
         Place::PreemptPhase(preempt, phase) => three(preempt.number(), phase.number(), 0),
@@ -114,12 +115,17 @@ fn of_pedestrian_detector(plan: &Plan, detector: PedestrianDetector) -> Numbers
     five(u32::from(detector.number()), called, 0, 0, 0)
 }
 
-/// Of an overlap: its number and its type.
-fn of_overlap(plan: &Plan, overlap: Overlap) -> Numbers
-    ensures { result ≡ five overlap ((plan_of plan.now).value OverlapType overlap) 0 0 0 }
+/// Of an overlap: its number, and its type, how many modifier phases it has, or its trailing yellow.
+fn of_overlap(plan: &Plan, fault: RuleFault, overlap: Overlap) -> Numbers
+    ensures { result ≡ of_overlap (plan_of plan.now) fault overlap }
 {
     let number = u32::from(overlap.number());
-    five(number, plan.at(Object::OverlapType, number), 0, 0, 0)
+    let shown = match fault {
+        RuleFault::K28Turns => turns_of(plan, overlap),
+        RuleFault::K29Yellow => plan.at(Object::OverlapTrailYellow, number),
+        _ => plan.at(Object::OverlapType, number),
+    };
+    five(number, shown, 0, 0, 0)
 }
 
 /// An entry of the schedule: its number, and its day plan.

@@ -3,7 +3,7 @@ use Rattle.std.proofs.Common.{◌≡◌, ◌≢◌, ◌∙◌, ℕ, ◌<◌, ◌
 use Rattle.std.proofs.lemmas.Bool.{cases_Bool, le-leb, lt-leb, lt-ltb, le-ltb, eq-eqb}
 use Rattle.std.proofs.lemmas.Bool.Decides.{leb_tells, eqb_tells}
 use Rattle.tsb_field_diagram.specs.declared.band.BandMark.{BandMark}
-use Rattle.tsb_field_diagram.specs.declared.band.BandMark.TheVariants.{Dark, Green, Yellow, Red, Flashing, Walk, Clearance, DontWalk, Served, On}
+use Rattle.tsb_field_diagram.specs.declared.band.BandMark.TheVariants.{Dark, Green, Yellow, Red, Flashing, Walk, Clearance, DontWalk, Served, On, Arrow}
 use Rattle.tsb_field_diagram.specs.Bars.{Bar, bars_on, bars_of, from_tick, before_tick, in_line, is_same, number_of}
 use Rattle.tsb_field_diagram.specs.Laws.{IsBefore, Rises, in_force, Fill, DifferFrom, Differ, Tell, AreStretches}
 
@@ -13,7 +13,7 @@ mark_of : ℕ → BandMark
 mark_of n =
     if eqb n 0 then Dark else (if eqb n 1 then Green else (if eqb n 2 then Yellow else (if eqb n 3 then Red else
     (if eqb n 4 then Flashing else (if eqb n 5 then Walk else (if eqb n 6 then Clearance else (if eqb n 7 then DontWalk else
-    (if eqb n 8 then Served else On))))))))
+    (if eqb n 8 then Served else (if eqb n 9 then On else Arrow)))))))))
 
 marked : (m : BandMark) → mark_of (number_of m) ≡ m
 unfolding mark_of
@@ -27,6 +27,7 @@ marked Clearance = refl
 marked DontWalk = refl
 marked Served = refl
 marked On = refl
+marked Arrow = refl
 
 same-mark : (a b : BandMark) → is_same a b ≡ true → a ≡ b
 same-mark a b e =

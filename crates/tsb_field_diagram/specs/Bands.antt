@@ -32,7 +32,8 @@ vehicle_mark n heads =
     if shows heads.greens n then marks.Green else
     (if shows heads.yellows n then marks.Yellow else
     (if shows heads.reds n then marks.Red else
-    (if shows heads.flashing n then marks.Flashing else marks.Dark)))
+    (if shows heads.flashing n then marks.Flashing else
+    (if shows heads.arrows n then marks.Arrow else marks.Dark))))
 
 -- what a pedestrian head shows
 abbrev pub pedestrian_mark : ℕ → PedestrianHeads → BandMark

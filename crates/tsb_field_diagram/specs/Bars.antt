@@ -2,7 +2,7 @@
 -- dark is a bar like the others, but has no text.
 use Rattle.std.specs.Prelude.{ℕ, ◌+◌, ◌-◌, ◌*◌, ◌==◌, nat_le, nat_lt, max, Bool, if◌then◌else◌, List, [], ◌∷◌, ◌++◌, codes}
 use Rattle.tsb_field_diagram.specs.declared.band.BandMark.{BandMark}
-use Rattle.tsb_field_diagram.specs.declared.band.BandMark.TheVariants.{Dark, Green, Yellow, Red, Flashing, Walk, Clearance, DontWalk, Served, On}
+use Rattle.tsb_field_diagram.specs.declared.band.BandMark.TheVariants.{Dark, Green, Yellow, Red, Flashing, Walk, Clearance, DontWalk, Served, On, Arrow}
 use Rattle.tsb_field_diagram.specs.Text.{attribute_text}
 
 -- ## What is in force in a line
@@ -36,6 +36,7 @@ number_of Clearance = 6
 number_of DontWalk = 7
 number_of Served = 8
 number_of On = 9
+number_of Arrow = 10
 
 -- the marks are one
 abbrev pub is_same : BandMark → BandMark → Bool
@@ -77,6 +78,7 @@ shape_of Clearance = codes "<rect class=\"c\" height=\"8\" x=\""
 shape_of DontWalk = codes "<rect class=\"d\" height=\"1\" x=\""
 shape_of Served = codes "<rect class=\"p\" height=\"8\" x=\""
 shape_of On = codes "<rect class=\"o\" height=\"4\" x=\""
+shape_of Arrow = codes "<rect class=\"q\" height=\"8\" x=\""
 
 -- how far it stands below the top of its band
 abbrev pub inset_of : BandMark → ℕ
@@ -90,6 +92,7 @@ inset_of Clearance = 4
 inset_of DontWalk = 8
 inset_of Served = 4
 inset_of On = 6
+inset_of Arrow = 4
 
 -- the text of a shape in the band at this place, the first at place 0
 abbrev pub shape_text : ℕ → ℕ → ℕ → BandMark → List ℕ

@@ -12,6 +12,8 @@ pub mod Lines
 pub mod Letters
 -- the ends of greens in an event log
 pub mod Ends
+-- how a flashing yellow arrow is drawn and named
+pub mod ArrowKey
 -- what a diagram is made of
 pub mod Given
 -- a diagram as a whole

@@ -8,6 +8,7 @@ use Rattle.tsb_field_diagram.specs.Given.{Form, Session}
 use Rattle.tsb_field_diagram.specs.Text.{escaped, named_text}
 use Rattle.tsb_field_diagram.specs.Bands.{tick_of_row}
 use Rattle.tsb_field_diagram.specs.Bars.{before_tick}
+use Rattle.tsb_field_diagram.specs.ArrowKey.{key_text}
 use Rattle.tsb_field_diagram.specs.Letters.{ends_text}
 use Rattle.tsb_field_diagram.specs.Lit.{bands_of}
 use Rattle.tsb_field_diagram.specs.Lines.{all_lines, line_count, line_top}
@@ -83,8 +84,9 @@ line_seconds asked = min (max asked 1) 86400
 unfoldable pub picture_text : List ℕ → List Band → Scale → Session → List ℕ
 picture_text title bands scale session =
     page_head title scale.seconds (page_height (length bands) scale.seconds scale.last)
+    ++ (key_text bands scale.seconds session.changes
     ++ (all_lines bands scale session.changes session.rows
-    ++ (ends_text bands scale.seconds scale.last session.ends ++ codes "</svg>\n"))
+    ++ (ends_text bands scale.seconds scale.last session.ends ++ codes "</svg>\n")))
 
 -- the time of day at which tick 1 begins, in tenths of a second, where its moment is known
 abbrev pub clock_of : Option Moment → Option ℕ

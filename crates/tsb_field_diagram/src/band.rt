@@ -55,6 +55,8 @@ pub enum BandMark {
     Red,
     /// Flashing red, or flash.
     Flashing,
+    /// A flashing yellow arrow.
+    Arrow,
     /// Walk.
     Walk,
     /// Clearance.
@@ -106,6 +108,8 @@ fn vehicle_mark(number: u8, heads: &VehicleHeads) -> BandMark
         BandMark::Red
     } else if shows(heads.flashing, number) {
         BandMark::Flashing
+    } else if shows(heads.arrows, number) {
+        BandMark::Arrow
     } else {
         BandMark::Dark
     }

@@ -130,6 +130,7 @@ fn number_of(mark: BandMark) -> u8
         BandMark::DontWalk => 7,
         BandMark::Served => 8,
         BandMark::On => 9,
+        BandMark::Arrow => 10,
     }
 }
 
@@ -167,6 +168,7 @@ fn shape_of(mark: BandMark) -> &'static [u8]
         BandMark::DontWalk => b"<rect class=\"d\" height=\"1\" x=\"",
         BandMark::Served => b"<rect class=\"p\" height=\"8\" x=\"",
         BandMark::On => b"<rect class=\"o\" height=\"4\" x=\"",
+        BandMark::Arrow => b"<rect class=\"q\" height=\"8\" x=\"",
     }
 }
 
@@ -179,7 +181,7 @@ fn inset_of(mark: BandMark) -> u128
         BandMark::Green | BandMark::Yellow => 2,
         BandMark::Red => 7,
         BandMark::Flashing => 5,
-        BandMark::Walk | BandMark::Clearance | BandMark::Served => 4,
+        BandMark::Walk | BandMark::Clearance | BandMark::Served | BandMark::Arrow => 4,
         BandMark::DontWalk => 8,
         BandMark::On => 6,
     }

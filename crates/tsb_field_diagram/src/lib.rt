@@ -1,6 +1,7 @@
 //! The phase diagram of a session, and what is in force in a week, as pictures in SVG.
 #![tactic(auto)]
 
+mod arrow_key;
 mod axis;
 mod band;
 mod bars;

@@ -4,6 +4,7 @@ ghost use Rattle.tsb_types.specs.Lists.{or_number};
 ghost use Rattle.tsb_field_diagram.specs.Text.{named_text};
 ghost use Rattle.tsb_field_diagram.specs.Page.{bands_until, classes_text, clearance_text, clock_of, diagram_text, flash_text, legend_text, line_seconds, names_text, opening_text, page_head, page_height, picture_text, scale_of, shapes_text, style_text, titles_text, yellow_text};
 
+use crate::arrow_key::append_arrow_key;
 use crate::band::Band;
 use crate::bars::before_tick;
 use crate::ends::GreenEnd;
@@ -81,7 +82,7 @@ impl<'a> Model for DiagramSession<'a> {
 /// of each phase with its pedestrian head below it, the overlaps, vehicle detectors, pedestrian detectors and preempt
 /// inputs. Below them it has an axis of seconds, with the clock at minutes. A bar begins at its tick and is its ticks
 /// wide. Where a head is dark there is no bar. Where there are ends of greens, a line below the legend says what their
-/// letters mean. The form of the picture is "profile".
+/// letters mean, and where some arrow ever flashes, how that is drawn. The form of the picture is "profile".
 pub fn diagram_text(
     alloc: Global,
     form: &DiagramForm<'_>,
@@ -155,6 +156,7 @@ fn append_picture(
 {
     let height = page_height(bands.len(), scale.seconds, scale.last);
     append_page_head(text, title, scale.seconds, height)?;
+    append_arrow_key(text, bands, scale.seconds, session.changes)?;
     append_lines(text, bands, scale, session.changes, session.rows)?;
     append_ends(text, bands, scale.seconds, scale.last, session.ends)?;
     append(text, b"</svg>\n")
@@ -222,7 +224,7 @@ fn append_classes(text: &mut Vec<u8>, seconds: u32) -> Result<(), AllocError>
 }
 
 /// Adds a pattern to a text, with the seconds of a line between these two parts.
-fn append_pattern(
+pub(crate) fn append_pattern(
     text: &mut Vec<u8>,
     first: &[u8],
     seconds: u32,

@@ -6,7 +6,7 @@ use Rattle.tsb_types.proofs.FirstLemmas.{first-none, first-run_from}
 use Rattle.tsb_field_display.specs.declared.shown.Shown.{Shown}
 use Rattle.tsb_field_display.specs.declared.shown.Signals.{Signals}
 use Rattle.tsb_types.specs.Events.{either}
-use Rattle.tsb_field_display.specs.Events.{events_of, preempt_events, flash_events, is_in_flash, is_green, is_yellow, is_walk, is_clearance, is_overlap_green, is_overlap_yellow}
+use Rattle.tsb_field_display.specs.Events.{events_of, preempt_events, flash_events, is_in_flash, is_green, is_yellow, is_walk, is_clearance, is_overlap_green, is_overlap_yellow, is_overlap_arrow, is_overlap_lit}
 use Rattle.tsb_types.proofs.EventLemmas.{none-told}
 
 -- the least of a set, or none, is the first of its numbers
@@ -36,9 +36,11 @@ events-same s tick =
       none-told tick 21 (is_walk s),
       none-told tick 22 (is_clearance s),
       none-told tick 23 (either (is_walk s) (is_clearance s)),
+      none-told tick 32 (is_overlap_arrow s),
+      none-told tick 33 (is_overlap_arrow s),
       none-told tick 61 (is_overlap_green s),
       none-told tick 63 (is_overlap_yellow s),
-      none-told tick 64 (either (is_overlap_green s) (is_overlap_yellow s)),
+      none-told tick 64 (is_overlap_lit s),
       none-preempt s.preempt tick,
       none-flash (is_in_flash s) tick,
     ) refl

@@ -4,14 +4,14 @@ use Rattle.tsb_types.specs.Lists.{run_from}
 use Rattle.tsb_types.specs.Sets.{has_number}
 use Rattle.tsb_types.specs.declared.limits.TheConstants.{PREEMPTS}
 use Rattle.tsb_types.specs.declared.lamp.Aspect.{Aspect}
-use Rattle.tsb_types.specs.declared.lamp.Aspect.TheVariants.{Dark, Red, Yellow, Green, FlashingRed}
+use Rattle.tsb_types.specs.declared.lamp.Aspect.TheVariants.{Dark, Red, Yellow, Green, FlashingRed, FlashingYellow}
 use Rattle.tsb_types.specs.declared.lamp.PedestrianAspect.{PedestrianAspect}
 use Rattle.tsb_types.specs.declared.lamp.PedestrianAspect.TheVariants as pedestrian_aspects
 use Rattle.tsb_display_text.specs.Line.{letter, line_in, pedestrian_letter}
 use Rattle.tsb_display_text.specs.tsb_heads.Colours as colours
 use Rattle.tsb_display_text.specs.tsb_heads.Heads.{Heads}
 use Rattle.tsb_display_text.specs.tsb_heads.Monitoring as monitor
-use Rattle.tsb_field_display.specs.Events.{is_green, is_yellow, is_walk, is_clearance, is_overlap_green, is_overlap_yellow}
+use Rattle.tsb_field_display.specs.Events.{is_green, is_yellow, is_walk, is_clearance, is_overlap_green, is_overlap_yellow, is_overlap_arrow}
 use Rattle.tsb_field_display.specs.Reading.{heads_with, overlaps_in, preempt_of, signals_of}
 use Rattle.tsb_field_display.specs.declared.shown.Signals.{Signals}
 use Rattle.tsb_field_display.proofs.LetterLemmas.{names-beyond}
@@ -25,6 +25,7 @@ letter-green Red = refl
 letter-green Yellow = refl
 letter-green Green = refl
 letter-green FlashingRed = refl
+letter-green FlashingYellow = refl
 
 letter-yellow : (a : Aspect) → (letter a == 89) ≡ colours.is_yellow a
 letter-yellow Dark = refl
@@ -32,6 +33,7 @@ letter-yellow Red = refl
 letter-yellow Yellow = refl
 letter-yellow Green = refl
 letter-yellow FlashingRed = refl
+letter-yellow FlashingYellow = refl
 
 letter-flashing : (a : Aspect) → (letter a == 70) ≡ colours.is_flashing a
 letter-flashing Dark = refl
@@ -39,6 +41,15 @@ letter-flashing Red = refl
 letter-flashing Yellow = refl
 letter-flashing Green = refl
 letter-flashing FlashingRed = refl
+letter-flashing FlashingYellow = refl
+
+letter-arrow : (a : Aspect) → (letter a == 80) ≡ colours.is_flashing_yellow a
+letter-arrow Dark = refl
+letter-arrow Red = refl
+letter-arrow Yellow = refl
+letter-arrow Green = refl
+letter-arrow FlashingRed = refl
+letter-arrow FlashingYellow = refl
 
 letter-walk : (a : PedestrianAspect) → (pedestrian_letter a == 87) ≡ colours.shows_walk a
 letter-walk pedestrian_aspects.Dark = refl
@@ -64,8 +75,10 @@ pub record Shows (is_wide : Bool) (heads : Heads) (served : Option ℕ) (s : Sig
   pub clearances : (p : ℕ) → 1 ≤ p → p ≤ 16 → is_clearance s p ≡ colours.shows_clearance (heads.pedestrian p)
   pub overlap_greens : (o : ℕ) → 1 ≤ o → o ≤ overlaps_in is_wide → is_overlap_green s o ≡ monitor.is_green (heads.overlap o)
   pub overlap_yellows : (o : ℕ) → 1 ≤ o → o ≤ overlaps_in is_wide → is_overlap_yellow s o ≡ colours.is_yellow (heads.overlap o)
+  pub overlap_arrows : (o : ℕ) → 1 ≤ o → o ≤ overlaps_in is_wide → is_overlap_arrow s o ≡ colours.is_flashing_yellow (heads.overlap o)
   pub few_overlap_greens : (o : ℕ) → overlaps_in is_wide < o → is_overlap_green s o ≡ false
   pub few_overlap_yellows : (o : ℕ) → overlaps_in is_wide < o → is_overlap_yellow s o ≡ false
+  pub few_overlap_arrows : (o : ℕ) → overlaps_in is_wide < o → is_overlap_arrow s o ≡ false
   pub preempt : s.preempt ≡ served
 
 -- a head has the letter of what it shows
@@ -92,8 +105,10 @@ shows is_wide now heads preempt local line known is_line = record {
   clearances = spelled 67 pedestrian_letter colours.shows_clearance letter-clearance heads.pedestrian 16 _ is_line.pedestrians;
   overlap_greens = spelled 71 letter monitor.is_green letter-green heads.overlap (overlaps_in is_wide) _ is_line.overlaps;
   overlap_yellows = spelled 89 letter colours.is_yellow letter-yellow heads.overlap (overlaps_in is_wide) _ is_line.overlaps;
+  overlap_arrows = spelled 80 letter colours.is_flashing_yellow letter-arrow heads.overlap (overlaps_in is_wide) _ is_line.overlaps;
   few_overlap_greens = beyond 71 (λ o. letter (heads.overlap o)) (overlaps_in is_wide) _ is_line.overlaps;
   few_overlap_yellows = beyond 89 (λ o. letter (heads.overlap o)) (overlaps_in is_wide) _ is_line.overlaps;
+  few_overlap_arrows = beyond 80 (λ o. letter (heads.overlap o)) (overlaps_in is_wide) _ is_line.overlaps;
   preempt = ap preempt_of is_line.served ∙ preempt-read preempt known;
 }
 

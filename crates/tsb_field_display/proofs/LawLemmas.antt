@@ -14,8 +14,8 @@ use Rattle.tsb_field_display.specs.declared.shown.Signals.{Signals}
 use Rattle.tsb_field_display.specs.Shows.{nothing_lit, is_same, AreApart}
 use Rattle.tsb_field_display.specs.Remaining.{changes_after}
 use Rattle.tsb_types.specs.Events.{event, told, told_detectors, numbers_with, detectors_with, begins, ends, either}
-use Rattle.tsb_field_display.specs.Events.{events_of, events_after, events_of_lines, vehicle_events, pedestrian_events, overlap_events, preempt_events, flash_events, is_in_flash, is_green, is_yellow, is_walk, is_clearance, is_overlap_green, is_overlap_yellow}
-use Rattle.tsb_field_display.specs.ReadBack.{said_or, lit_after, says_at, says_green, says_yellow, says_walk, says_clearance, says_overlap_green, says_overlap_yellow, says_flash}
+use Rattle.tsb_field_display.specs.Events.{events_of, events_after, events_of_lines, vehicle_events, pedestrian_events, arrow_events, overlap_events, preempt_events, flash_events, is_in_flash, is_green, is_yellow, is_walk, is_clearance, is_overlap_green, is_overlap_yellow, is_overlap_arrow, is_overlap_lit}
+use Rattle.tsb_field_display.specs.ReadBack.{said_or, lit_after, says_at, says_green, says_yellow, says_walk, says_clearance, says_overlap_green, says_overlap_yellow, says_overlap_arrow, says_flash}
 use Rattle.tsb_field_display.specs.Laws.{AreAllApart, ComeOfChanges, TellTheHeads}
 use Rattle.tsb_field_display.proofs.SameLemmas.{same-signals}
 use Rattle.tsb_field_display.proofs.EventLemmas.{no-events}
@@ -165,7 +165,7 @@ flash-quiet says lit true false tick silent = record { is_lit = ap (λ (o : Opti
 flash-quiet says lit false true tick silent = record { is_lit = ap (λ (o : Option Bool). said_or o lit) (silent 6) }
 flash-quiet says lit false false tick silent = record { is_lit = refl }
 
--- what the codes of vehicle heads, of pedestrian heads and of overlaps make of it
+-- what the codes of vehicle heads, of pedestrian heads, of arrows and of overlaps make of it
 abbrev by_vehicles : (ℕ → Option Bool) → ℕ → Signals → Signals → Bool → Bool
 by_vehicles by_code p was now lit =
     effect (by_code 9) (ends (is_yellow was) (is_yellow now) p) (effect (by_code 8) (begins (is_yellow was) (is_yellow now) p)
@@ -176,9 +176,14 @@ by_pedestrians by_code p was now lit =
     effect (by_code 23) (ends (either (is_walk was) (is_clearance was)) (either (is_walk now) (is_clearance now)) p)
     (effect (by_code 22) (begins (is_clearance was) (is_clearance now) p) (effect (by_code 21) (begins (is_walk was) (is_walk now) p) lit))
 
+abbrev by_arrows : (ℕ → Option Bool) → ℕ → Signals → Signals → Bool → Bool
+by_arrows by_code p was now lit =
+    effect (by_code 33) (ends (is_overlap_arrow was) (is_overlap_arrow now) p)
+    (effect (by_code 32) (begins (is_overlap_arrow was) (is_overlap_arrow now) p) lit)
+
 abbrev by_overlaps : (ℕ → Option Bool) → ℕ → Signals → Signals → Bool → Bool
 by_overlaps by_code p was now lit =
-    effect (by_code 64) (ends (either (is_overlap_green was) (is_overlap_yellow was)) (either (is_overlap_green now) (is_overlap_yellow now)) p)
+    effect (by_code 64) (ends (is_overlap_lit was) (is_overlap_lit now) p)
     (effect (by_code 63) (begins (is_overlap_yellow was) (is_overlap_yellow now) p)
     (effect (by_code 61) (begins (is_overlap_green was) (is_overlap_green now) p) lit))
 
@@ -197,20 +202,28 @@ lit-pedestrians by_code p was tick now lit from within =
     (leads-told by_code p _ tick 22 (begins (is_clearance was) (is_clearance now)) from within))
     (leads-told by_code p _ tick 23 (ends (either (is_walk was) (is_clearance was)) (either (is_walk now) (is_clearance now))) from within)
 
+lit-arrows : (by_code : ℕ → Option Bool) (p : ℕ) (was : Signals) (tick : ℕ) (now : Signals) (lit : Bool) → 1 ≤ p → p ≤ 16 →
+    Leads (says_at by_code p) lit (arrow_events was tick now) (by_arrows by_code p was now lit)
+lit-arrows by_code p was tick now lit from within =
+    after (leads-told by_code p lit tick 32 (begins (is_overlap_arrow was) (is_overlap_arrow now)) from within)
+    (leads-told by_code p _ tick 33 (ends (is_overlap_arrow was) (is_overlap_arrow now)) from within)
+
 lit-overlaps : (by_code : ℕ → Option Bool) (p : ℕ) (was : Signals) (tick : ℕ) (now : Signals) (lit : Bool) → 1 ≤ p → p ≤ 16 →
     Leads (says_at by_code p) lit (overlap_events was tick now) (by_overlaps by_code p was now lit)
 lit-overlaps by_code p was tick now lit from within =
     after (after (leads-told by_code p lit tick 61 (begins (is_overlap_green was) (is_overlap_green now)) from within)
     (leads-told by_code p _ tick 63 (begins (is_overlap_yellow was) (is_overlap_yellow now)) from within))
-    (leads-told by_code p _ tick 64 (ends (either (is_overlap_green was) (is_overlap_yellow was)) (either (is_overlap_green now) (is_overlap_yellow now))) from within)
+    (leads-told by_code p _ tick 64 (ends (is_overlap_lit was) (is_overlap_lit now)) from within)
 
 lit-change : (by_code : ℕ → Option Bool) (p : ℕ) (was : Signals) (now : Shown) (lit : Bool) → 1 ≤ p → p ≤ 16 → by_code 105 ≡ None → by_code 173 ≡ None →
     lit_after (says_at by_code p) lit (events_of was now)
-    ≡ by_overlaps by_code p was now.signals (by_pedestrians by_code p was now.signals (by_vehicles by_code p was now.signals lit))
+    ≡ by_overlaps by_code p was now.signals (by_arrows by_code p was now.signals (by_pedestrians by_code p was now.signals
+    (by_vehicles by_code p was now.signals lit)))
 unfolding events_of
 lit-change by_code p was now lit from within preempt flash = is_lit_of (
-    after (after (after (after (lit-vehicles by_code p was now.tick now.signals lit from within)
+    after (after (after (after (after (lit-vehicles by_code p was now.tick now.signals lit from within)
     (lit-pedestrians by_code p was now.tick now.signals _ from within))
+    (lit-arrows by_code p was now.tick now.signals _ from within))
     (lit-overlaps by_code p was now.tick now.signals _ from within))
     (preempt-quiet (says_at by_code p) _ was.preempt now.tick now.signals.preempt (λ n. quiet by_code p now.tick 105 n preempt)))
     (flash-quiet (says_at by_code p) _ (is_in_flash was) (is_in_flash now.signals) now.tick (λ n. quiet by_code p now.tick 173 n flash)))
@@ -229,8 +242,9 @@ unfolding events_of
 lit-flash was now =
     let silent : (code : ℕ) (test : ℕ → Bool) → (code == 173) ≡ false → Leads says_flash (is_in_flash was) (told now.tick code test) (is_in_flash was) =
     λ code test other. record { is_lit = lit-silent says_flash (is_in_flash was) now.tick code (numbers_with test) (λ n. rw other refl) } in
-    is_lit_of (after (after (after (after (after (after (after (silent 1 _ refl) (silent 7 _ refl)) (silent 8 _ refl)) (silent 9 _ refl))
+    is_lit_of (after (after (after (after (after (after (after (after (silent 1 _ refl) (silent 7 _ refl)) (silent 8 _ refl)) (silent 9 _ refl))
     (after (after (silent 21 _ refl) (silent 22 _ refl)) (silent 23 _ refl)))
+    (after (silent 32 _ refl) (silent 33 _ refl)))
     (after (after (silent 61 _ refl) (silent 63 _ refl)) (silent 64 _ refl)))
     (preempt-quiet says_flash (is_in_flash was) was.preempt now.tick now.signals.preempt (λ n. refl)))
     (flashes (is_in_flash was) (is_in_flash now.signals) now.tick))
@@ -274,6 +288,81 @@ second-colour false false false true a b = refl
 second-colour false true false false a b = refl
 second-colour false false false false a b = refl
 
+-- three colours, and an overlap shows at most one of them
+abbrev OneColour : Bool → Bool → Bool → Type 0
+OneColour w c a = (w ≡ true → c ≡ false) × ((w ≡ true → a ≡ false) × (c ≡ true → a ≡ false))
+
+one-colour : (s : Signals) → AreApart s → (o : ℕ) → OneColour (is_overlap_green s o) (is_overlap_yellow s o) (is_overlap_arrow s o)
+one-colour s apart o = (apart.overlaps o, (apart.green_arrows o, apart.yellow_arrows o))
+
+first-of-three : (w c a nw nc na : Bool) → OneColour w c a → OneColour nw nc na →
+    (if ((w || c) || a) && not ((nw || nc) || na) then false else (if nc && not c then false else (if nw && not w then true else (if na && not a then false else w)))) ≡ nw
+first-of-three true true a nw nc na o n = absurd (true≢false (o.0 refl))
+first-of-three true false true nw nc na o n = absurd (true≢false (o.1.0 refl))
+first-of-three false true true nw nc na o n = absurd (true≢false (o.1.1 refl))
+first-of-three true false false true true na o n = absurd (true≢false (n.0 refl))
+first-of-three true false false true false true o n = absurd (true≢false (n.1.0 refl))
+first-of-three true false false false true true o n = absurd (true≢false (n.1.1 refl))
+first-of-three true false false true false false o n = refl
+first-of-three true false false false true false o n = refl
+first-of-three true false false false false true o n = refl
+first-of-three true false false false false false o n = refl
+first-of-three false true false true true na o n = absurd (true≢false (n.0 refl))
+first-of-three false true false true false true o n = absurd (true≢false (n.1.0 refl))
+first-of-three false true false false true true o n = absurd (true≢false (n.1.1 refl))
+first-of-three false true false true false false o n = refl
+first-of-three false true false false true false o n = refl
+first-of-three false true false false false true o n = refl
+first-of-three false true false false false false o n = refl
+first-of-three false false true true true na o n = absurd (true≢false (n.0 refl))
+first-of-three false false true true false true o n = absurd (true≢false (n.1.0 refl))
+first-of-three false false true false true true o n = absurd (true≢false (n.1.1 refl))
+first-of-three false false true true false false o n = refl
+first-of-three false false true false true false o n = refl
+first-of-three false false true false false true o n = refl
+first-of-three false false true false false false o n = refl
+first-of-three false false false true true na o n = absurd (true≢false (n.0 refl))
+first-of-three false false false true false true o n = absurd (true≢false (n.1.0 refl))
+first-of-three false false false false true true o n = absurd (true≢false (n.1.1 refl))
+first-of-three false false false true false false o n = refl
+first-of-three false false false false true false o n = refl
+first-of-three false false false false false true o n = refl
+first-of-three false false false false false false o n = refl
+
+second-of-three : (w c a nw nc na : Bool) → OneColour w c a → OneColour nw nc na →
+    (if ((w || c) || a) && not ((nw || nc) || na) then false else (if nc && not c then true else (if nw && not w then false else (if na && not a then false else c)))) ≡ nc
+second-of-three true true a nw nc na o n = absurd (true≢false (o.0 refl))
+second-of-three true false true nw nc na o n = absurd (true≢false (o.1.0 refl))
+second-of-three false true true nw nc na o n = absurd (true≢false (o.1.1 refl))
+second-of-three true false false true true na o n = absurd (true≢false (n.0 refl))
+second-of-three true false false true false true o n = absurd (true≢false (n.1.0 refl))
+second-of-three true false false false true true o n = absurd (true≢false (n.1.1 refl))
+second-of-three true false false true false false o n = refl
+second-of-three true false false false true false o n = refl
+second-of-three true false false false false true o n = refl
+second-of-three true false false false false false o n = refl
+second-of-three false true false true true na o n = absurd (true≢false (n.0 refl))
+second-of-three false true false true false true o n = absurd (true≢false (n.1.0 refl))
+second-of-three false true false false true true o n = absurd (true≢false (n.1.1 refl))
+second-of-three false true false true false false o n = refl
+second-of-three false true false false true false o n = refl
+second-of-three false true false false false true o n = refl
+second-of-three false true false false false false o n = refl
+second-of-three false false true true true na o n = absurd (true≢false (n.0 refl))
+second-of-three false false true true false true o n = absurd (true≢false (n.1.0 refl))
+second-of-three false false true false true true o n = absurd (true≢false (n.1.1 refl))
+second-of-three false false true true false false o n = refl
+second-of-three false false true false true false o n = refl
+second-of-three false false true false false true o n = refl
+second-of-three false false true false false false o n = refl
+second-of-three false false false true true na o n = absurd (true≢false (n.0 refl))
+second-of-three false false false true false true o n = absurd (true≢false (n.1.0 refl))
+second-of-three false false false false true true o n = absurd (true≢false (n.1.1 refl))
+second-of-three false false false true false false o n = refl
+second-of-three false false false false true false o n = refl
+second-of-three false false false false false true o n = refl
+second-of-three false false false false false false o n = refl
+
 -- ## Of lines
 
 abbrev Follows : (Event → Option Bool) → (Signals → Bool) → Type 0
@@ -291,7 +380,12 @@ follow says shows step was (next ∷ lines) line apart all =
     (follow says shows step next.signals lines line all.0 all.1)))
 
 none-apart : AreApart nothing_lit
-none-apart = record { pedestrians = λ n e. names-zero n; overlaps = λ n e. names-zero n }
+none-apart = record {
+  pedestrians = λ n e. names-zero n;
+  overlaps = λ n e. names-zero n;
+  green_arrows = λ n e. names-zero n;
+  yellow_arrows = λ n e. names-zero n;
+}
 
 -- where nothing is lit at first
 followed : (says : Event → Option Bool) (shows : Signals → Bool) → Follows says shows → shows nothing_lit ≡ false → (lines : List Shown) (line : Shown) →
@@ -317,11 +411,17 @@ tell-the-heads lines line all = record {
       (names-zero p) lines line all;
   overlap_green = λ o from within. followed (says_at says_overlap_green o) (λ s. is_overlap_green s o) (λ was now a b.
       lit-change says_overlap_green o was now (is_overlap_green was o) from (omega (arith, within)) refl refl
-      ∙ first-colour (is_overlap_green was o) (is_overlap_yellow was o) (is_overlap_green now.signals o) (is_overlap_yellow now.signals o) (a.overlaps o) (b.overlaps o))
+      ∙ first-of-three (is_overlap_green was o) (is_overlap_yellow was o) (is_overlap_arrow was o)
+      (is_overlap_green now.signals o) (is_overlap_yellow now.signals o) (is_overlap_arrow now.signals o) (one-colour was a o) (one-colour now.signals b o))
       (names-zero o) lines line all;
   overlap_yellow = λ o from within. followed (says_at says_overlap_yellow o) (λ s. is_overlap_yellow s o) (λ was now a b.
       lit-change says_overlap_yellow o was now (is_overlap_yellow was o) from (omega (arith, within)) refl refl
-      ∙ second-colour (is_overlap_green was o) (is_overlap_yellow was o) (is_overlap_green now.signals o) (is_overlap_yellow now.signals o) (a.overlaps o) (b.overlaps o))
+      ∙ second-of-three (is_overlap_green was o) (is_overlap_yellow was o) (is_overlap_arrow was o)
+      (is_overlap_green now.signals o) (is_overlap_yellow now.signals o) (is_overlap_arrow now.signals o) (one-colour was a o) (one-colour now.signals b o))
+      (names-zero o) lines line all;
+  overlap_arrow = λ o from within. followed (says_at says_overlap_arrow o) (λ s. is_overlap_arrow s o) (λ was now a b.
+      lit-change says_overlap_arrow o was now (is_overlap_arrow was o) from (omega (arith, within)) refl refl
+      ∙ begun-or-ended (is_overlap_arrow was o) (is_overlap_arrow now.signals o))
       (names-zero o) lines line all;
   flash = followed says_flash is_in_flash (λ was now a b. lit-flash was now)
       (ap (λ (o : Option ℕ). is_some o) (first-none (has_number nothing_lit.vehicles.flashing) (run_from 1 16) names-zero)) lines line all;

@@ -47,6 +47,12 @@ apart-pedestrians bs n e = apart-letters 87 67 (omega arith) bs n e
 pub apart-overlaps : (bs : List ℕ) → IsApart (has_number (vehicles_of bs).greens) (has_number (vehicles_of bs).yellows)
 apart-overlaps bs n e = apart-letters 71 89 (omega arith) bs n e
 
+pub apart-green_arrows : (bs : List ℕ) → IsApart (has_number (vehicles_of bs).greens) (has_number (vehicles_of bs).arrows)
+apart-green_arrows bs n e = apart-letters 71 80 (omega arith) bs n e
+
+pub apart-yellow_arrows : (bs : List ℕ) → IsApart (has_number (vehicles_of bs).yellows) (has_number (vehicles_of bs).arrows)
+apart-yellow_arrows bs n e = apart-letters 89 80 (omega arith) bs n e
+
 -- ## Reading letters one after the other
 
 pub list_with-drop : (letter : ℕ) (bs : List ℕ) (k : ℕ) → k < length bs →

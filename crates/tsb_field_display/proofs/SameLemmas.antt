@@ -16,8 +16,10 @@ same-vehicles s t e =
     let greens = same-set s.greens t.greens a.0 in
     let yellows = same-set s.yellows t.yellows b.0 in
     let reds = same-set s.reds t.reds d.0 in
-    let flashing = same-set s.flashing t.flashing d.1 in
-    λ i. record { greens = greens i; yellows = yellows i; reds = reds i; flashing = flashing i }
+    let f = and_parts _ _ d.1 in
+    let flashing = same-set s.flashing t.flashing f.0 in
+    let arrows = same-set s.arrows t.arrows f.1 in
+    λ i. record { greens = greens i; yellows = yellows i; reds = reds i; flashing = flashing i; arrows = arrows i }
 
 same-pedestrians : (s t : PedestrianHeads) → are_same_pedestrians s t ≡ true → s ≡ t
 same-pedestrians s t e =

@@ -64,9 +64,10 @@ unfolding events_of
 each-line before now =
     let P : Event → Type 0 = λ e. is_of_input e ≡ false in
     let t : ℕ = now.tick in
-    join (join (join (join
+    join (join (join (join (join
     (join (join (join (each-told P t 1 _ (λ n. refl)) (each-told P t 7 _ (λ n. refl))) (each-told P t 8 _ (λ n. refl))) (each-told P t 9 _ (λ n. refl)))
     (join (join (each-told P t 21 _ (λ n. refl)) (each-told P t 22 _ (λ n. refl))) (each-told P t 23 _ (λ n. refl))))
+    (join (each-told P t 32 _ (λ n. refl)) (each-told P t 33 _ (λ n. refl))))
     (join (join (each-told P t 61 _ (λ n. refl)) (each-told P t 63 _ (λ n. refl))) (each-told P t 64 _ (λ n. refl))))
     (each-preempt P before.preempt now.signals.preempt t (λ n. refl)))
     (each-flash P (is_in_flash before) (is_in_flash now.signals) t (λ n. refl))
@@ -206,9 +207,10 @@ block-line : (before : Signals) (now : Shown) → IsBlock now.tick 1 173 (events
 unfolding events_of
 block-line before now =
     let t : ℕ = now.tick in
-    next refl (next refl (next refl (next refl
+    next refl (next refl (next refl (next refl (next refl
     (next refl (next refl (next refl (block-told t 1 _) (block-told t 7 _)) (block-told t 8 _)) (block-told t 9 _))
     (next refl (next refl (block-told t 21 _) (block-told t 22 _)) (block-told t 23 _)))
+    (next refl (block-told t 32 _) (block-told t 33 _)))
     (next refl (next refl (block-told t 61 _) (block-told t 63 _)) (block-told t 64 _)))
     (block-preempt before.preempt now.signals.preempt t))
     (block-flash (is_in_flash before) (is_in_flash now.signals) t)

@@ -34,6 +34,14 @@ is_overlap_green s o = has_number s.overlaps.greens o
 abbrev pub is_overlap_yellow : Signals → ℕ → Bool
 is_overlap_yellow s o = has_number s.overlaps.yellows o
 
+-- it flashes yellow, as an arrow
+abbrev pub is_overlap_arrow : Signals → ℕ → Bool
+is_overlap_arrow s o = has_number s.overlaps.arrows o
+
+-- it is green, yellow, or flashes yellow
+abbrev pub is_overlap_lit : Signals → ℕ → Bool
+is_overlap_lit s = either (either (is_overlap_green s) (is_overlap_yellow s)) (is_overlap_arrow s)
+
 -- some vehicle head flashes
 abbrev pub is_in_flash : Signals → Bool
 is_in_flash s = some_passes (has_number s.vehicles.flashing) (run_from 1 16)
@@ -52,13 +60,18 @@ pedestrian_events before tick now =
     told tick 21 (begins (is_walk before) (is_walk now)) ++ told tick 22 (begins (is_clearance before) (is_clearance now))
     ++ told tick 23 (ends (either (is_walk before) (is_clearance before)) (either (is_walk now) (is_clearance now)))
 
--- of overlaps: 61 green begins, 63 yellow begins, 64 neither is any more
+-- of arrows: 32 flashing yellow begins, 33 it ends
+abbrev pub arrow_events : Signals → ℕ → Signals → List Event
+arrow_events before tick now =
+    told tick 32 (begins (is_overlap_arrow before) (is_overlap_arrow now))
+    ++ told tick 33 (ends (is_overlap_arrow before) (is_overlap_arrow now))
+
+-- of overlaps: 61 green begins, 63 yellow begins, 64 it is neither any more, nor flashes yellow
 abbrev pub overlap_events : Signals → ℕ → Signals → List Event
 overlap_events before tick now =
     told tick 61 (begins (is_overlap_green before) (is_overlap_green now))
     ++ told tick 63 (begins (is_overlap_yellow before) (is_overlap_yellow now))
-    ++ told tick 64 (ends (either (is_overlap_green before) (is_overlap_yellow before))
-    (either (is_overlap_green now) (is_overlap_yellow now)))
+    ++ told tick 64 (ends (is_overlap_lit before) (is_overlap_lit now))
 
 -- 105: this preempt enters service
 abbrev pub preempt_events : Option ℕ → ℕ → Option ℕ → List Event
@@ -74,7 +87,8 @@ flash_events before tick now =
 unfoldable pub events_of : Signals → Shown → List Event
 events_of before now =
     vehicle_events before now.tick now.signals ++ pedestrian_events before now.tick now.signals
-    ++ overlap_events before now.tick now.signals ++ preempt_events before.preempt now.tick now.signals.preempt
+    ++ arrow_events before now.tick now.signals ++ overlap_events before now.tick now.signals
+    ++ preempt_events before.preempt now.tick now.signals.preempt
     ++ flash_events (is_in_flash before) now.tick (is_in_flash now.signals)
 
 -- those of lines, one after the other, of which the first comes after this

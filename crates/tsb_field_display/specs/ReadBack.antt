@@ -32,13 +32,25 @@ says_walk code = if code == 21 then Some true else (if code == 22 then Some fals
 abbrev pub says_clearance : ℕ → Option Bool
 says_clearance code = if code == 21 then Some false else (if code == 22 then Some true else (if code == 23 then Some false else None))
 
--- of the green of an overlap
+-- of the green of an overlap: an arrow that begins to flash is no longer green
 abbrev pub says_overlap_green : ℕ → Option Bool
-says_overlap_green code = if code == 61 then Some true else (if code == 63 then Some false else (if code == 64 then Some false else None))
+says_overlap_green code =
+    if code == 61 then Some true else
+    (if code == 63 then Some false else
+    (if code == 64 then Some false else
+    (if code == 32 then Some false else None)))
 
 -- of its yellow
 abbrev pub says_overlap_yellow : ℕ → Option Bool
-says_overlap_yellow code = if code == 61 then Some false else (if code == 63 then Some true else (if code == 64 then Some false else None))
+says_overlap_yellow code =
+    if code == 61 then Some false else
+    (if code == 63 then Some true else
+    (if code == 64 then Some false else
+    (if code == 32 then Some false else None)))
+
+-- of its flashing yellow
+abbrev pub says_overlap_arrow : ℕ → Option Bool
+says_overlap_arrow code = if code == 32 then Some true else (if code == 33 then Some false else None)
 
 -- and of flash: 6 that it is, 2 that it is not
 abbrev pub says_flash : Event → Option Bool
@@ -52,6 +64,7 @@ pub record Lit : Type 0 where
   pub clearance : ℕ → Bool
   pub overlap_green : ℕ → Bool
   pub overlap_yellow : ℕ → Bool
+  pub overlap_arrow : ℕ → Bool
   pub flash : Bool
 
 -- what events tell: before them nothing is lit
@@ -63,5 +76,6 @@ read_back events = record {
   clearance = λ p. lit_after (says_at says_clearance p) false events;
   overlap_green = λ o. lit_after (says_at says_overlap_green o) false events;
   overlap_yellow = λ o. lit_after (says_at says_overlap_yellow o) false events;
+  overlap_arrow = λ o. lit_after (says_at says_overlap_arrow o) false events;
   flash = lit_after says_flash false events;
 }

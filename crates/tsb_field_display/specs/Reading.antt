@@ -22,13 +22,14 @@ list_with letter (b ∷ bs) = (if b == letter then 1 else 0) + 2 * list_with let
 abbrev pub heads_with : ℕ → List ℕ → NumberSet
 heads_with letter letters = set_of_list (list_with letter letters)
 
--- what letters of vehicle heads show: G, Y, R, F where one flashes, and otherwise it is dark
+-- what letters of vehicle heads show: G, Y, R, F where one flashes, P where an arrow does, and otherwise it is dark
 abbrev pub vehicles_of : List ℕ → VehicleHeads
 vehicles_of letters = record {
   greens = heads_with 71 letters;
   yellows = heads_with 89 letters;
   reds = heads_with 82 letters;
   flashing = heads_with 70 letters;
+  arrows = heads_with 80 letters;
 }
 
 -- what letters of pedestrian heads show: W, C for clearance, D, and otherwise one is dark
@@ -72,12 +73,12 @@ unfoldable pub is_display : List ℕ → Bool
 is_display line =
     has_space 7 line && has_space 24 line && has_space 41 line && has_space 46 line && has_space 48 line
     && is_spelled (codes "-RYGF") (field 8 16 line) && is_spelled (codes "-DCW") (field 25 16 line)
-    && is_spelled (codes "-RYGF") (field 42 4 line) && is_preempt (slice_index line 47) && is_local (field 49 4 line)
+    && is_spelled (codes "-RYGPF") (field 42 4 line) && is_preempt (slice_index line 47) && is_local (field 49 4 line)
 
 -- a line has 53 bytes; a wide one has 70, with a space and letters behind those of a line
 abbrev pub is_whole : Bool → List ℕ → Bool
 is_whole is_wide line =
-    if is_wide then length line == 70 && has_space 53 line && is_spelled (codes "-RYGF") (field 54 16 line) else length line == 53
+    if is_wide then length line == 70 && has_space 53 line && is_spelled (codes "-RYGPF") (field 54 16 line) else length line == 53
 
 -- how many overlaps a line shows, or a wide one
 abbrev pub overlaps_in : Bool → ℕ

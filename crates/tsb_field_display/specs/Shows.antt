@@ -3,7 +3,7 @@ use Rattle.std.specs.Prelude.{ℕ, ◌&&◌, nat_eq, Bool, None, if◌then◌els
 use Rattle.std.specs.Option.{option_eq}
 use Rattle.tsb_types.specs.Sets.{has_number, is_same_set, set_of_list}
 use Rattle.tsb_types.specs.declared.lamp.Aspect.{Aspect}
-use Rattle.tsb_types.specs.declared.lamp.Aspect.TheVariants.{Dark, Red, Yellow, Green, FlashingRed}
+use Rattle.tsb_types.specs.declared.lamp.Aspect.TheVariants.{Dark, Red, Yellow, Green, FlashingRed, FlashingYellow}
 use Rattle.tsb_types.specs.declared.lamp.PedestrianAspect.{PedestrianAspect}
 use Rattle.tsb_types.specs.declared.lamp.PedestrianAspect.TheVariants as pedestrian_aspects
 use Rattle.tsb_display_text.specs.tsb_heads.Promises.{IsApart}
@@ -13,7 +13,13 @@ use Rattle.tsb_field_display.specs.declared.shown.Signals.{Signals}
 
 -- no vehicle head is lit
 abbrev pub dark_vehicles : VehicleHeads
-dark_vehicles = record { greens = set_of_list 0; yellows = set_of_list 0; reds = set_of_list 0; flashing = set_of_list 0 }
+dark_vehicles = record {
+  greens = set_of_list 0;
+  yellows = set_of_list 0;
+  reds = set_of_list 0;
+  flashing = set_of_list 0;
+  arrows = set_of_list 0;
+}
 
 -- no pedestrian head is lit
 abbrev pub dark_pedestrians : PedestrianHeads
@@ -29,7 +35,8 @@ aspect_of heads n =
     if has_number heads.greens n then Green else
     (if has_number heads.yellows n then Yellow else
     (if has_number heads.reds n then Red else
-    (if has_number heads.flashing n then FlashingRed else Dark)))
+    (if has_number heads.flashing n then FlashingRed else
+    (if has_number heads.arrows n then FlashingYellow else Dark))))
 
 -- what the pedestrian head of this number shows, by the set that it is in
 abbrev pub pedestrian_aspect_of : PedestrianHeads → ℕ → PedestrianAspect
@@ -38,10 +45,12 @@ pedestrian_aspect_of heads n =
     (if has_number heads.clearances n then pedestrian_aspects.Clearance else
     (if has_number heads.dont_walks n then pedestrian_aspects.DontWalk else pedestrian_aspects.Dark))
 
--- no pedestrian head shows both walk and clearance, and no overlap both green and yellow
+-- no pedestrian head shows both walk and clearance, and no overlap two of green, yellow and flashing yellow
 pub record AreApart (s : Signals) : Type 0 where
   pub pedestrians : IsApart (has_number s.pedestrians.walks) (has_number s.pedestrians.clearances)
   pub overlaps : IsApart (has_number s.overlaps.greens) (has_number s.overlaps.yellows)
+  pub green_arrows : IsApart (has_number s.overlaps.greens) (has_number s.overlaps.arrows)
+  pub yellow_arrows : IsApart (has_number s.overlaps.yellows) (has_number s.overlaps.arrows)
 
 -- ## Whether two show the same
 
@@ -49,7 +58,7 @@ pub record AreApart (s : Signals) : Type 0 where
 abbrev pub are_same_vehicles : VehicleHeads → VehicleHeads → Bool
 are_same_vehicles one other =
     is_same_set one.greens other.greens && (is_same_set one.yellows other.yellows
-    && (is_same_set one.reds other.reds && is_same_set one.flashing other.flashing))
+    && (is_same_set one.reds other.reds && (is_same_set one.flashing other.flashing && is_same_set one.arrows other.arrows)))
 
 -- the same pedestrian heads show each signal
 abbrev pub are_same_pedestrians : PedestrianHeads → PedestrianHeads → Bool

@@ -2,19 +2,20 @@
 ghost use Rattle.std.specs.Prelude.{◌≡◌, ◌+◌, ◌++◌, ◌≤◌};
 ghost use Rattle.arrayvec.specs.ArrayVec.{array_vec_len};
 ghost use Rattle.tsb_types.specs.Lists.{is};
-ghost use Rattle.tsb_field_display.specs.Events.{events_of, flash_events, is_in_flash, overlap_events, pedestrian_events, preempt_events, vehicle_events};
+ghost use Rattle.tsb_field_display.specs.Events.{arrow_events, events_of, flash_events, is_in_flash, overlap_events, pedestrian_events, preempt_events, vehicle_events};
 
 use crate::shown::{Shown, Signals, same};
 use arrayvec::ArrayVec;
 use tsb_types::Event;
 use tsb_types::event::{
-    CLEARANCE_BEGINS, DONT_WALK_BEGINS, FLASH, FLASH_CHANGES, GREEN_BEGINS, GREEN_ENDS, NO_FLASH,
-    OVERLAP_GREEN_BEGINS, OVERLAP_RED_BEGINS, OVERLAP_YELLOW_BEGINS, PREEMPT_ENTERS, WALK_BEGINS,
-    YELLOW_BEGINS, YELLOW_ENDS, begun, joined, tell,
+    ARROW_BEGINS, ARROW_ENDS, CLEARANCE_BEGINS, DONT_WALK_BEGINS, FLASH, FLASH_CHANGES,
+    GREEN_BEGINS, GREEN_ENDS, NO_FLASH, OVERLAP_GREEN_BEGINS, OVERLAP_RED_BEGINS,
+    OVERLAP_YELLOW_BEGINS, PREEMPT_ENTERS, WALK_BEGINS, YELLOW_BEGINS, YELLOW_ENDS, begun, joined,
+    tell,
 };
 
 /// The most events of one change.
-pub const EVENTS: usize = 162;
+pub const EVENTS: usize = 194;
 
 /// The events of one change.
 pub type Events = ArrayVec<Event, EVENTS>;
@@ -31,6 +32,7 @@ pub fn events_between(before: &Signals, now: &Shown) -> Events
     }
     tell_vehicles(&mut events, before, now);
     tell_pedestrians(&mut events, before, now);
+    tell_arrows(&mut events, before, now);
     tell_overlaps(&mut events, before, now);
     tell_preempt(&mut events, before, now);
     tell_flash(&mut events, before, now);
@@ -39,7 +41,7 @@ pub fn events_between(before: &Signals, now: &Shown) -> Events
 
 /// Adds the events of vehicle heads.
 fn tell_vehicles(events: &mut Events, before: &Signals, now: &Shown)
-    requires { array_vec_len events.old + 64 ≤ 162 }
+    requires { array_vec_len events.old + 64 ≤ 194 }
     ensures told { events.new.items ≡ events.old.items ++ vehicle_events before.now now.now.tick now.now.signals }
     ensures few { array_vec_len events.new ≤ array_vec_len events.old + 64 }
 {
@@ -63,7 +65,7 @@ fn tell_vehicles(events: &mut Events, before: &Signals, now: &Shown)
 
 /// Adds the events of pedestrian heads.
 fn tell_pedestrians(events: &mut Events, before: &Signals, now: &Shown)
-    requires { array_vec_len events.old + 48 ≤ 162 }
+    requires { array_vec_len events.old + 48 ≤ 194 }
     ensures told { events.new.items ≡ events.old.items ++ pedestrian_events before.now now.now.tick now.now.signals }
     ensures few { array_vec_len events.new ≤ array_vec_len events.old + 48 }
 {
@@ -86,16 +88,28 @@ fn tell_pedestrians(events: &mut Events, before: &Signals, now: &Shown)
     );
 }
 
+/// Adds the events of arrows.
+fn tell_arrows(events: &mut Events, before: &Signals, now: &Shown)
+    requires { array_vec_len events.old + 32 ≤ 194 }
+    ensures told { events.new.items ≡ events.old.items ++ arrow_events before.now now.now.tick now.now.signals }
+    ensures few { array_vec_len events.new ≤ array_vec_len events.old + 32 }
+{
+    let was = before.overlaps.arrows;
+    let is = now.signals.overlaps.arrows;
+    tell(events, now.tick, ARROW_BEGINS, begun(was, is));
+    tell(events, now.tick, ARROW_ENDS, begun(is, was));
+}
+
 /// Adds the events of overlaps.
 fn tell_overlaps(events: &mut Events, before: &Signals, now: &Shown)
-    requires { array_vec_len events.old + 48 ≤ 162 }
+    requires { array_vec_len events.old + 48 ≤ 194 }
     ensures told { events.new.items ≡ events.old.items ++ overlap_events before.now now.now.tick now.now.signals }
     ensures few { array_vec_len events.new ≤ array_vec_len events.old + 48 }
 {
     let was = before.overlaps;
     let is = now.signals.overlaps;
-    let lit_was = joined(was.greens, was.yellows);
-    let lit_is = joined(is.greens, is.yellows);
+    let lit_was = joined(joined(was.greens, was.yellows), was.arrows);
+    let lit_is = joined(joined(is.greens, is.yellows), is.arrows);
     tell(
         events,
         now.tick,
@@ -113,7 +127,7 @@ fn tell_overlaps(events: &mut Events, before: &Signals, now: &Shown)
 
 /// Adds the event of a preempt that enters service.
 fn tell_preempt(events: &mut Events, before: &Signals, now: &Shown)
-    requires { array_vec_len events.old + 1 ≤ 162 }
+    requires { array_vec_len events.old + 1 ≤ 194 }
     ensures told { events.new.items ≡ events.old.items ++ preempt_events before.now.preempt now.now.tick now.now.signals.preempt }
     ensures few { array_vec_len events.new ≤ array_vec_len events.old + 1 }
 {
@@ -141,7 +155,7 @@ fn is_in_service(shown: Option<u8>, preempt: u8) -> bool
 
 /// Adds the event of a flash that begins or ends.
 fn tell_flash(events: &mut Events, before: &Signals, now: &Shown)
-    requires { array_vec_len events.old + 1 ≤ 162 }
+    requires { array_vec_len events.old + 1 ≤ 194 }
     ensures told { events.new.items ≡ events.old.items ++ flash_events (is_in_flash before.now) now.now.tick (is_in_flash now.now.signals) }
     ensures few { array_vec_len events.new ≤ array_vec_len events.old + 1 }
 {

@@ -40,7 +40,7 @@ fn is_whole(line: &[u8], is_wide: bool) -> bool
     ensures wide { result ≡ true → is_wide ≡ true → length line.now ≡ 70 }
 {
     if is_wide {
-        line.len() == WIDE && line[53] == b' ' && are_vehicles(&line[54..70])
+        line.len() == WIDE && line[53] == b' ' && are_overlaps(&line[54..70])
     } else {
         line.len() == WIDTH
     }
@@ -73,7 +73,7 @@ fn is_display(line: &[u8]) -> bool
         && line[48] == b' '
         && are_vehicles(&line[8..24])
         && are_pedestrians(&line[25..41])
-        && are_vehicles(&line[42..46])
+        && are_overlaps(&line[42..46])
         && is_preempt(line[47])
         && is_local(&line[49..53])
 }
@@ -84,6 +84,18 @@ fn are_vehicles(letters: &[u8]) -> bool
 {
     for letter in letters {
         if !matches!(*letter, b'-' | b'R' | b'Y' | b'G' | b'F') {
+            return false;
+        }
+    }
+    true
+}
+
+/// Whether each byte is a letter of the head of an overlap.
+fn are_overlaps(letters: &[u8]) -> bool
+    ensures { result ≡ is_spelled (codes "-RYGPF") letters.now }
+{
+    for letter in letters {
+        if !matches!(*letter, b'-' | b'R' | b'Y' | b'G' | b'P' | b'F') {
             return false;
         }
     }
@@ -150,6 +162,7 @@ fn vehicles(letters: &[u8]) -> VehicleHeads
         yellows: heads_with(letters, b'Y'),
         reds: heads_with(letters, b'R'),
         flashing: heads_with(letters, b'F'),
+        arrows: heads_with(letters, b'P'),
     }
 }
 

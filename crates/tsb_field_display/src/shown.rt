@@ -16,6 +16,8 @@ pub struct VehicleHeads {
     pub reds: NumberSet,
     /// The heads that flash red.
     pub flashing: NumberSet,
+    /// The heads that flash yellow, as arrows do.
+    pub arrows: NumberSet,
 }
 
 /// The pedestrian heads that show each aspect. A head in no set is dark.
@@ -62,6 +64,7 @@ impl Signals {
             yellows: none,
             reds: none,
             flashing: none,
+            arrows: none,
         };
         Signals {
             vehicles: dark,

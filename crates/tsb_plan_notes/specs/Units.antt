@@ -1,7 +1,7 @@
 -- THE UNITS OF VALUES, as docs/use/MANUAL.md has them for each object.
 use Rattle.std.specs.Prelude.{ℕ, List, [], codes}
 use Rattle.tsb_plan.specs.declared.object.Object.{Object}
-use Rattle.tsb_plan.specs.declared.object.Object.TheVariants.{OverlapIncludedPhases, OverlapModifierPhases, PatternCycleTime, PatternOffsetTime, PatternPermissiveTime, PhaseAddedInitial, PhaseConcurrency, PhaseDynamicMaxLimit, PhaseDynamicMaxStep, PhaseMaximum1, PhaseMaximum2, PhaseMaximumInitial, PhaseMinimumGap, PhaseMinimumGreen, PhasePassage, PhasePedestrianClear, PhaseRedClear, PhaseRedRevert, PhaseTimeBeforeReduction, PhaseTimeToReduce, PhaseWalk, PhaseYellowChange, PreemptDelay, PreemptDwellPhase, PreemptEnterPedClear, PreemptExitPhase, PreemptMaximumPresence, PreemptMinimumDuration, PreemptMinimumGreen, PreemptMinimumWalk, PreemptTrackGreen, PreemptTrackPhase, SplitTime, UnitRedRevert, VehicleDetectorDelay, VehicleDetectorExtend, VehicleDetectorFailTime, VehicleDetectorMaxPresence, VehicleDetectorNoActivity}
+use Rattle.tsb_plan.specs.declared.object.Object.TheVariants.{OverlapArrowDelay, OverlapIncludedPhases, OverlapModifierPhases, OverlapTrailGreen, OverlapTrailRed, OverlapTrailYellow, PatternCycleTime, PatternOffsetTime, PatternPermissiveTime, PhaseAddedInitial, PhaseConcurrency, PhaseDynamicMaxLimit, PhaseDynamicMaxStep, PhaseMaximum1, PhaseMaximum2, PhaseMaximumInitial, PhaseMinimumGap, PhaseMinimumGreen, PhasePassage, PhasePedestrianClear, PhaseRedClear, PhaseRedRevert, PhaseTimeBeforeReduction, PhaseTimeToReduce, PhaseWalk, PhaseYellowChange, PreemptDelay, PreemptDwellPhase, PreemptEnterPedClear, PreemptExitPhase, PreemptMaximumPresence, PreemptMinimumDuration, PreemptMinimumGreen, PreemptMinimumWalk, PreemptTrackGreen, PreemptTrackPhase, SplitTime, UnitRedRevert, VehicleDetectorDelay, VehicleDetectorExtend, VehicleDetectorFailTime, VehicleDetectorMaxPresence, VehicleDetectorNoActivity}
 use Rattle.tsb_plan_notes.specs.declared.units.Unit.{Unit}
 use Rattle.tsb_plan_notes.specs.declared.units.Unit.TheVariants.{Minutes, Phases, Plain, Seconds, Tenths}
 
@@ -40,6 +40,10 @@ unit_of UnitRedRevert = Tenths
 unit_of PhaseDynamicMaxLimit = Seconds
 unit_of PhaseDynamicMaxStep = Tenths
 unit_of PatternPermissiveTime = Seconds
+unit_of OverlapArrowDelay = Tenths
+unit_of OverlapTrailGreen = Seconds
+unit_of OverlapTrailYellow = Tenths
+unit_of OverlapTrailRed = Tenths
 unit_of PhaseConcurrency = Phases
 unit_of OverlapIncludedPhases = Phases
 unit_of OverlapModifierPhases = Phases

@@ -44,7 +44,8 @@ pub fn unit_of(object: Object) -> Unit
         | Object::PreemptEnterPedClear
         | Object::PreemptTrackGreen
         | Object::PhaseDynamicMaxLimit
-        | Object::PatternPermissiveTime => Unit::Seconds,
+        | Object::PatternPermissiveTime
+        | Object::OverlapTrailGreen => Unit::Seconds,
         Object::PhasePassage
         | Object::PhaseYellowChange
         | Object::PhaseRedClear
@@ -54,7 +55,10 @@ pub fn unit_of(object: Object) -> Unit
         | Object::VehicleDetectorDelay
         | Object::VehicleDetectorExtend
         | Object::UnitRedRevert
-        | Object::PhaseDynamicMaxStep => Unit::Tenths,
+        | Object::PhaseDynamicMaxStep
+        | Object::OverlapArrowDelay
+        | Object::OverlapTrailYellow
+        | Object::OverlapTrailRed => Unit::Tenths,
         Object::VehicleDetectorNoActivity | Object::VehicleDetectorMaxPresence => Unit::Minutes,
         Object::PhaseConcurrency
         | Object::OverlapIncludedPhases

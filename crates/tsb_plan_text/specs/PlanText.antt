@@ -117,7 +117,7 @@ abbrev pub unless_broken : Option Rule → Plan → Result Plan Error
 unless_broken None plan = Ok plan
 unless_broken (Some r) plan = Err (broken r)
 
--- the plan itself, or as an error the first of K1 to K27 that it breaks
+-- the plan itself, or as an error the first of K1 to K29 that it breaks
 unfoldable pub checked : Plan → Result Plan Error
 checked plan = unless_broken (first_broken plan) plan
 

@@ -1,7 +1,7 @@
 -- How a rule is told, as the fault of a plan text and as the answer to a check at the desk.
 use Rattle.std.specs.Prelude.{ℕ, List, ◌++◌, codes}
 use Rattle.tsb_objects.specs.tsb_rules.declared.rules.Rule.{Rule}
-use Rattle.tsb_objects.specs.tsb_rules.declared.rules.Rule.TheVariants.{K1, K2, K3, K4, K5, K6, K7, K8, K9, K10, K11, K12, K13, K14, K15, K16, K17, K18, K19, K20, K21, K22, K23, K24, K25, K26, K27}
+use Rattle.tsb_objects.specs.tsb_rules.declared.rules.Rule.TheVariants.{K1, K2, K3, K4, K5, K6, K7, K8, K9, K10, K11, K12, K13, K14, K15, K16, K17, K18, K19, K20, K21, K22, K23, K24, K25, K26, K27, K28, K29}
 
 -- the letter K and the rule's number
 abbrev pub rule_name : Rule → List ℕ
@@ -32,6 +32,8 @@ rule_name K24 = codes "K24"
 rule_name K25 = codes "K25"
 rule_name K26 = codes "K26"
 rule_name K27 = codes "K27"
+rule_name K28 = codes "K28"
+rule_name K29 = codes "K29"
 
 -- its line, without its end
 abbrev pub rule_line : Rule → List ℕ

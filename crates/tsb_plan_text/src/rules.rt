@@ -4,7 +4,7 @@ ghost use Rattle.tsb_plan_text.specs.RuleLines.{rule_line};
 
 use tsb_objects::Rule;
 
-/// The line that names a rule, without its end: `rule K1` to `rule K27`.
+/// The line that names a rule, without its end: `rule K1` to `rule K29`.
 pub fn rule_line(rule: Rule) -> &'static str
     ensures line { result.now ≡ rule_line rule }
     ensures short { length result.now ≤ 11 }
@@ -37,5 +37,7 @@ pub fn rule_line(rule: Rule) -> &'static str
         Rule::K25 => "rule K25",
         Rule::K26 => "rule K26",
         Rule::K27 => "rule K27",
+        Rule::K28 => "rule K28",
+        Rule::K29 => "rule K29",
     }
 }

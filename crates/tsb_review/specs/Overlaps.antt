@@ -3,7 +3,7 @@ use Rattle.std.specs.Prelude.{ℕ, ◌==◌, Bool, not, ◌&&◌, ◌||◌, Opti
 use Rattle.std.specs.List.{list_any}
 use Rattle.tsb_types.specs.Lists.{first}
 use Rattle.tsb_plan.specs.declared.object.Object.TheVariants.{OverlapIncludedPhases, OverlapModifierPhases}
-use Rattle.tsb_plan.specs.Parts.{is_included, is_modifier, overlaps_across_rings}
+use Rattle.tsb_plan.specs.Parts.{is_arrow, is_included, is_modifier, overlaps_across_rings, trails}
 use Rattle.tsb_plan.specs.Plan.{Plan, phases, ring_of, is_concurrent}
 use Rattle.tsb_rules.specs.Rules.{has_walk}
 use Rattle.tsb_review.specs.Actuation.{phase_and}
@@ -26,10 +26,10 @@ abbrev pub split_from : Plan → ℕ → Option ℕ → Option ℕ
 split_from plan o None = None
 split_from plan o (Some p) = first (is_split_from plan o p) (phases plan)
 
--- A39: overlap o includes phases of both rings that are not concurrent, and does not go on across rings: as one follows
--- the other, it turns yellow
+-- A39: overlap o includes phases of both rings that are not concurrent, does not go on across rings, and is no arrow: as
+-- one follows the other, it turns yellow
 abbrev pub is_split : Plan → ℕ → Bool
-is_split plan o = not (overlaps_across_rings plan o) && is_some (split_at plan o)
+is_split plan o = not (overlaps_across_rings plan o) && (not (is_arrow plan o) && is_some (split_at plan o))
 
 -- A40: p is both an included and a modifier phase of overlap o
 abbrev pub modifies_itself : Plan → ℕ → ℕ → Bool
@@ -43,12 +43,12 @@ is_beside plan o p q = is_included plan o q && (not (q == p) && ring_of plan p =
 abbrev pub is_carried_at : Plan → ℕ → ℕ → Bool
 is_carried_at plan o p = is_included plan o p && list_any (is_beside plan o p) (phases plan)
 
--- A41: overlap o includes phases, no two of one ring, and those of two rings are concurrent; and it has no modifier phase.
--- No phase of it follows another, so it shows what its phases show
+-- A41: overlap o includes phases, no two of one ring, and those of two rings are concurrent; it has no modifier phase and
+-- does not trail. No phase of it follows another, so it shows what its phases show
 abbrev pub adds_nothing : Plan → ℕ → Bool
 adds_nothing plan o =
     not (plan.value OverlapIncludedPhases o == 0) && (plan.value OverlapModifierPhases o == 0 &&
-    (is_none (split_at plan o) && not (list_any (is_carried_at plan o) (phases plan))))
+    (not (trails plan o) && (is_none (split_at plan o) && not (list_any (is_carried_at plan o) (phases plan)))))
 
 -- overlap o includes q, which is neither p nor l
 abbrev pub is_third : Plan → ℕ → ℕ → ℕ → ℕ → Bool

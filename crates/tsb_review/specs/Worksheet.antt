@@ -1,10 +1,9 @@
 -- A worksheet of a plan: how long the entry of a preempt lasts at most, and what each pattern gives the phases that it
 -- serves. Times are in tenths of a second, which are ticks. That no run has a longer entry is a law of tsb_laws.
-use Rattle.std.specs.Prelude.{ℕ, ◌+◌, ◌==◌, Bool, not, ◌&&◌, if◌then◌else◌, min, max, List, [], ◌∷◌, Option, Some, None}
+use Rattle.std.specs.Prelude.{ℕ, ◌+◌, Bool, not, ◌&&◌, if◌then◌else◌, min, max, List, [], ◌∷◌, Option, Some, None}
 use Rattle.std.specs.List.{list_all}
 use Rattle.tsb_types.specs.Lists.{run_from}
-use Rattle.tsb_plan.specs.declared.object.Object.TheVariants.{OverlapIncludedPhases}
-use Rattle.tsb_plan.specs.Parts.{chooses_anew, enter_pedestrian_clear, is_used, preempt_minimum_green, preempt_minimum_walk}
+use Rattle.tsb_plan.specs.Parts.{chooses_anew, enter_pedestrian_clear, includes_none, is_included, is_used, preempt_minimum_green, preempt_minimum_walk, trail_red, trail_yellow, trails}
 use Rattle.tsb_plan.specs.Plan.{Plan, is_enabled, pedestrian_clear, phases, red_clear, red_revert, walk, yellow_change}
 use Rattle.tsb_plan.specs.Running.{is_omitted_now}
 use Rattle.tsb_rules.specs.Rules.{has_walk}
@@ -13,7 +12,7 @@ use Rattle.tsb_review.specs.Pedestrians.{pedestrian_time}
 use Rattle.tsb_review.specs.Preempts.{has_dwell}
 use Rattle.tsb_review.specs.Splits.{green_of_split, split_time_in}
 use Rattle.tsb_review.specs.declared.worksheet.PhaseTime.{PhaseTime}
-use Rattle.tsb_review.specs.declared.worksheet.PhaseTime.TheVariants.{Clearing, Pedestrians, Reverting}
+use Rattle.tsb_review.specs.declared.worksheet.PhaseTime.TheVariants.{Clearing, Pedestrians, Reverting, Waiting}
 use Rattle.tsb_review.specs.declared.worksheet.SplitShare.{SplitShare}
 use Rattle.tsb_review.specs.declared.worksheet.TheConstants.{GREEN_TICKS, RING_TICKS}
 
@@ -33,21 +32,36 @@ abbrev pub pedestrians_left : Plan → ℕ → ℕ → ℕ
 pedestrians_left plan n p =
     min (walk plan p) (preempt_minimum_walk plan n) + min (pedestrian_clear plan p) (enter_pedestrian_clear plan n)
 
--- how long p clears, or may not start again: yellow change and red clearance, or a longer red revert
+-- the yellow and red clearance of overlap o's own, where it trails and includes p
+abbrev pub held_by : Plan → ℕ → ℕ → ℕ
+held_by plan p o = if trails plan o && is_included plan o p then trail_yellow plan o + trail_red plan o else 0
+
+-- so long, at most, overlaps that trail hold p in clearance, once a preempt has ended their trailing greens
+unfoldable pub held : Plan → ℕ → ℕ
+held plan p = greatest_of (held_by plan p) (run_from 1 plan.counts.overlaps)
+
+-- how long p clears, or may not start again, after the last green has ended: yellow change and red clearance, or a longer
+-- red revert, or longer still where overlaps hold it
 abbrev pub clearing : Plan → ℕ → ℕ
-clearing plan p = max (yellow_change plan p + red_clear plan p) (red_revert plan p)
+clearing plan p = max (max (yellow_change plan p + red_clear plan p) (red_revert plan p)) (held plan p)
+
+-- how long p is waited for while a phase of the other ring may be green still: as that ends, late in the clearance of p,
+-- an overlap that includes both begins to trail, and holds p so much longer
+abbrev pub waited_for : Plan → ℕ → ℕ
+waited_for plan p = max (max (yellow_change plan p + red_clear plan p) (held plan p) + held plan p) (red_revert plan p)
 
 -- such a time of a phase
 abbrev pub time_of : PhaseTime → Plan → ℕ → ℕ
 time_of (Pedestrians n) plan = pedestrians_left plan n
 time_of Clearing plan = clearing plan
+time_of Waiting plan = waited_for plan
 time_of Reverting plan = red_revert plan
 
 -- a ring serves what it was committed to before: the pedestrians of a green clear, or an older commitment waits and has
 -- its least green; then what is in service clears
 abbrev pub longest_by_turn : Plan → ℕ → ℕ
 longest_by_turn plan n =
-    max (greatest plan (pedestrians_left plan n)) (greatest plan (clearing plan) + preempt_minimum_green plan n + GREEN_TICKS)
+    max (greatest plan (pedestrians_left plan n)) (greatest plan (waited_for plan) + preempt_minimum_green plan n + GREEN_TICKS)
     + greatest plan (clearing plan) + RING_TICKS
 
 -- the preempt chooses anew: pedestrians clear, or a green has its least time, or what is wanted reverts; then what is in
@@ -56,10 +70,6 @@ abbrev pub longest_by_choice : Plan → ℕ → ℕ
 longest_by_choice plan n =
     max (max (greatest plan (pedestrians_left plan n)) (preempt_minimum_green plan n + GREEN_TICKS)) (greatest plan (red_revert plan))
     + greatest plan (clearing plan) + RING_TICKS
-
--- overlap o includes no phase
-abbrev pub includes_none : Plan → ℕ → Bool
-includes_none plan o = plan.value OverlapIncludedPhases o == 0
 
 -- no overlap includes one, so none lasts by a commitment
 abbrev pub has_no_overlaps : Plan → Bool

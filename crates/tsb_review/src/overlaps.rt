@@ -53,11 +53,14 @@ pub(crate) fn split_from(plan: &Plan, overlap: Overlap, phase: Option<Phase>) ->
     }
 }
 
-/// A39: whether the overlap includes phases of both rings that are not concurrent, and does not go on across rings.
+/// A39: whether the overlap includes phases of both rings that are not concurrent, does not go on across rings, and is no
+/// arrow.
 pub(crate) fn is_split(plan: &Plan, overlap: Overlap) -> bool
     ensures { result ≡ is_split (plan_of plan.now) overlap }
 {
-    !plan.overlaps_across_rings(overlap) && split_at(plan, overlap).is_some()
+    !plan.overlaps_across_rings(overlap)
+        && !plan.is_arrow(overlap)
+        && split_at(plan, overlap).is_some()
 }
 
 /// A40: whether the phase is both an included and a modifier phase of the overlap.
@@ -101,13 +104,14 @@ fn list_of(plan: &Plan, object: Object, overlap: Overlap) -> u32
     plan.at(object, u32::from(overlap.number()))
 }
 
-/// A41: whether the overlap includes phases, no two of one ring, and those of two rings are concurrent, and it has no
-/// modifier phase.
+/// A41: whether the overlap includes phases, no two of one ring, and those of two rings are concurrent, it has no
+/// modifier phase, and does not trail.
 pub(crate) fn adds_nothing(plan: &Plan, overlap: Overlap) -> bool
     ensures { result ≡ adds_nothing (plan_of plan.now) overlap }
 {
     list_of(plan, Object::OverlapIncludedPhases, overlap) != 0
         && list_of(plan, Object::OverlapModifierPhases, overlap) == 0
+        && !plan.trails(overlap)
         && split_at(plan, overlap).is_none()
         && !is_carried(plan, overlap)
 }

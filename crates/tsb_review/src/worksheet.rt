@@ -7,7 +7,7 @@ ghost use Rattle.tsb_plan.specs.Parts.{is_used};
 ghost use Rattle.tsb_plan.specs.Plan.{is_enabled, red_revert};
 ghost use Rattle.tsb_plan.specs.PlanOf.{plan_of};
 ghost use Rattle.tsb_objects.specs.Instants.{coordinated_in_ring, first_coordinated, force_off, is_coordinated_in, reference};
-ghost use Rattle.tsb_review.specs.Worksheet.{clearing, crossing_of, entry_of, greatest, has_no_overlaps, has_share, includes_none, longest_by_choice, longest_by_turn, longest_entry, pedestrians_left, share, share_of, time_of};
+ghost use Rattle.tsb_review.specs.Worksheet.{clearing, crossing_of, entry_of, greatest, has_no_overlaps, has_share, held, held_by, longest_by_choice, longest_by_turn, longest_entry, pedestrians_left, share, share_of, time_of, waited_for};
 
 use crate::calls::has_walk;
 use crate::pedestrians::pedestrian_time;
@@ -30,8 +30,10 @@ const REFERENCE_RING: u32 = 1;
 enum PhaseTime {
     /// The walk and the pedestrian clearance that this preempt leaves.
     Pedestrians(Preempt),
-    /// Yellow change and red clearance, or a longer red revert.
+    /// Yellow change and red clearance, or a longer red revert, or what longer time overlaps that trail hold it.
     Clearing,
+    /// The same where a phase of the other ring may be green still: an overlap may begin to trail late in it.
+    Waiting,
     /// The red revert.
     Reverting,
 }
@@ -53,8 +55,9 @@ pub struct SplitShare {
 /// its track phases, or its dwell phases where it has no others. `None` for a preempt without dwell phases, which is never
 /// served.
 ///
-/// It holds while the preempt stays in that stage, the plan in effect stays and the controller does not trip, whatever
-/// inputs come: `printed_entries_hold` of tsb_laws (profile; a worksheet calls it the right-of-way transfer time).
+/// Where no overlap of the plan trails it holds while the preempt stays in that stage, the plan in effect stays and no
+/// trip comes, whatever the inputs: `printed_entries_hold` of tsb_laws (profile; a worksheet calls it the
+/// right-of-way transfer time). Where an overlap trails it is not proved.
 pub fn entry_of(plan: &Plan, preempt: Preempt) -> Option<u32>
     ensures { result ≡ entry_of (plan_of plan.now) preempt }
 {
@@ -81,9 +84,10 @@ fn longest_by_turn(plan: &Plan, preempt: Preempt) -> u32
     ensures { result ≡ longest_by_turn (plan_of plan.now) preempt }
 {
     let pedestrians = greatest(plan, &PhaseTime::Pedestrians(preempt));
+    let waiting = greatest(plan, &PhaseTime::Waiting);
     let clearing = greatest(plan, &PhaseTime::Clearing);
     let green = plan.preempt_minimum_green(preempt);
-    pedestrians.max(clearing + green + GREEN_TICKS) + clearing + RING_TICKS
+    pedestrians.max(waiting + green + GREEN_TICKS) + clearing + RING_TICKS
 }
 
 /// The longest entry of a preempt that chooses anew.
@@ -103,14 +107,7 @@ fn has_no_overlaps(plan: &Plan) -> bool
 {
     Overlap::all()
         .iter()
-        .all(|overlap| includes_none(plan, *overlap))
-}
-
-/// Whether the overlap includes no phase.
-fn includes_none(plan: &Plan, overlap: Overlap) -> bool
-    ensures { result ≡ includes_none (plan_of plan.now) overlap }
-{
-    plan.at(Object::OverlapIncludedPhases, u32::from(overlap.number())) == 0
+        .all(|overlap| plan.includes_none(*overlap))
 }
 
 /// The greatest that a time is for a phase, be it enabled or not.
@@ -135,6 +132,7 @@ fn time_of(plan: &Plan, time: &PhaseTime, phase: Phase) -> u32
     match time {
         PhaseTime::Pedestrians(preempt) => pedestrians_left(plan, *preempt, phase),
         PhaseTime::Clearing => clearing(plan, phase),
+        PhaseTime::Waiting => waited_for(plan, phase),
         PhaseTime::Reverting => reverting(plan, phase),
     }
 }
@@ -150,12 +148,55 @@ fn pedestrians_left(plan: &Plan, preempt: Preempt, phase: Phase) -> u32
             .min(plan.enter_pedestrian_clear(preempt))
 }
 
-/// How long the phase clears, or may not start again.
+/// How long the phase clears, or may not start again, or is held in clearance by an overlap that trails, in tenths of a
+/// second.
 fn clearing(plan: &Plan, phase: Phase) -> u32
     ensures value { result ≡ clearing (plan_of plan.now) phase }
     ensures range { result ≤ 1310700 }
 {
-    (plan.yellow_change(phase) + plan.red_clear(phase)).max(plan.red_revert(phase))
+    (plan.yellow_change(phase) + plan.red_clear(phase))
+        .max(plan.red_revert(phase))
+        .max(held(plan, phase))
+}
+
+/// How long the phase is waited for while a phase of the other ring may be green still, in tenths of a second: as that ends,
+/// an overlap that includes both may begin to trail, late in the clearance.
+fn waited_for(plan: &Plan, phase: Phase) -> u32
+    ensures value { result ≡ waited_for (plan_of plan.now) phase }
+    ensures range { result ≤ 1310700 }
+{
+    let trail = held(plan, phase);
+    let own = plan.yellow_change(phase) + plan.red_clear(phase);
+    (own.max(trail) + trail).max(plan.red_revert(phase))
+}
+
+/// How long overlaps that trail hold the phase, at most, once a preempt has ended their trailing greens, in tenths of a
+/// second.
+#[tactic(auto, unfolding(tsb_plan::specs::PlanOf::plan_of, crate::specs::Worksheet::held))]
+fn held(plan: &Plan, phase: Phase) -> u32
+    ensures value { result ≡ held (plan_of plan.now) phase }
+    ensures range { result ≤ 510 }
+{
+    let overlaps = Overlap::all();
+    let mut longest = 0;
+    for overlap in &overlaps {
+        longest = held_by(plan, *overlap, phase).max(longest);
+    }
+    longest
+}
+
+/// The yellow and red clearance of the overlap's own (`overlapTrailYellow`, `overlapTrailRed`), where it trails and
+/// includes the phase, in tenths of a second.
+fn held_by(plan: &Plan, overlap: Overlap, phase: Phase) -> u32
+    ensures value { result ≡ held_by (plan_of plan.now) phase overlap }
+    ensures range { result ≤ 510 }
+{
+    if plan.trails(overlap) && plan.included_phases(overlap).contains(phase) {
+        let index = u32::from(overlap.number());
+        plan.at(Object::OverlapTrailYellow, index) + plan.at(Object::OverlapTrailRed, index)
+    } else {
+        0
+    }
 }
 
 /// The red revert of the phase.

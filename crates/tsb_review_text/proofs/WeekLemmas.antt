@@ -18,7 +18,7 @@ use Rattle.tsb_plan.specs.Acting.{in_force}
 use Rattle.tsb_review_text.specs.Week.{day_plan_at, day_text, entry_at, moment_of, number_text, pattern_text, row_at, time_text, two, weekday_name}
 use Rattle.tsb_review_text.specs.WeekPicture.{title_of}
 use Rattle.tsb_review_text.specs.Written.{Wrote}
-use Rattle.tsb_review_text.proofs.WriteLemmas.{Went}
+use Rattle.tsb_lines.proofs.StreamLemmas.{Went}
 
 -- ## What has gone out
 

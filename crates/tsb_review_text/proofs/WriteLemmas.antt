@@ -1,17 +1,18 @@
 -- What a writer has taken of a review, piece by piece.
-use Rattle.std.proofs.Common.{◌≡◌, ◌∙◌, ℕ, zero, suc, ◌+◌, ◌-◌, ◌<◌, ◌≤◌, Bool, true, false, if◌then◌else◌, List, [], ◌∷◌, ◌++◌, append_assoc, length, drop, get_or, flat_map, refl, sym, ap, arith, subst, OnErr, OnOk, Some, None}
+use Rattle.std.proofs.Common.{◌≡◌, ◌∙◌, ℕ, ◌+◌, ◌-◌, ◌<◌, ◌≤◌, Bool, true, false, if◌then◌else◌, List, [], ◌∷◌, ◌++◌, append_assoc, length, drop, get_or, flat_map, refl, sym, ap, arith, subst, OnErr, OnOk, Some, None}
 use Rattle.std.specs.declared.result.Result.{Result}
 use Rattle.std.specs.declared.result.Result.TheVariants.{Ok, Err}
 use Rattle.std.proofs.lemmas.List.{append-nil, at_drop_all, at_drop_more}
 use Rattle.std.proofs.lemmas.List.Concat.{flat_map-append}
 use Rattle.std.proofs.lemmas.List.Folds.{flat_map-map}
 use Rattle.std.specs.Io.KnownBytes.{Appends}
-use Rattle.tsb_lines.proofs.StreamLemmas.{Gone, appends-more, appends-nothing}
+use Rattle.tsb_lines.proofs.StreamLemmas.{Went, appends-more, appends-nothing, went-as, went-piece}
 use Rattle.tsb_lines.specs.Writes.{AppendsFront}
 use Rattle.tsb_lines.specs.declared.writes.WriteError.{WriteError}
 use Rattle.tsb_lines.specs.Seen.{Seen}
 use Rattle.tsb_plan.specs.Plan.{Plan}
 use Rattle.tsb_types.specs.Lists.{run_from}
+use Rattle.tsb_types.proofs.RunLemmas.{flat-run_from, flat-run_past}
 use Rattle.tsb_review.specs.declared.advice.Advice.{Advice}
 use Rattle.tsb_breaches.specs.declared.fault.RuleFault.{RuleFault}
 use Rattle.tsb_breaches.specs.Breaches.{breaches, breaches_of, faults, found as found_at, is_at, shape as kind_of}
@@ -103,22 +104,6 @@ by-faults plan =
 
 -- ## What has gone out
 
--- what has gone out to a writer that has not failed since, and what is left
-pub record Went (a b : Seen) (text left : List ℕ) : Type 0 where
-  pub gone : Gone a.bytes b.bytes text left
-  pub well : b.failed ≡ a.failed
-
--- a piece more
-went-piece : (a b c : Seen) (text piece left : List ℕ) → Went a b text (piece ++ left) → Appends b.bytes c.bytes piece → c.failed ≡ b.failed → Went a c text left
-went-piece a b c text piece left so added well = record {
-  gone = record {
-    gone = so.gone.gone ++ piece;
-    grown = appends-more a.bytes b.bytes c.bytes so.gone.gone piece so.gone.grown added;
-    whole = so.gone.whole ∙ sym (append_assoc so.gone.gone piece left);
-  };
-  well = well ∙ so.well;
-}
-
 -- all
 pub wrote-all : (a b : Seen) (text : List ℕ) → Went a b text [] → Wrote (Ok tt) a b text
 wrote-all a b text so =
@@ -153,23 +138,6 @@ wrote-said r a b bytes text same whole front blame well =
 
 -- ## Over the numbers from 1 on
 
--- what is left at a number, and behind it
-left-at : (f : ℕ → List ℕ) (k end : ℕ) → k < end → flat_map f (run_from k (end - k)) ≡ f k ++ flat_map f (run_from (k + 1) (end - (k + 1)))
-unfolding run_from
-left-at f k end below =
-    let e : end - k ≡ suc (end - (k + 1)) = omega (arith, below) in
-    ap (λ (n : ℕ). flat_map f (run_from k n)) e
-
-left-end : (f : ℕ → List ℕ) (k end : ℕ) → end ≤ k → flat_map f (run_from k (end - k)) ≡ []
-unfolding run_from
-left-end f k end over =
-    let e : end - k ≡ zero = omega (arith, over) in
-    ap (λ (n : ℕ). flat_map f (run_from k n)) e
-
--- what is left, told otherwise
-went-as : (a b : Seen) (text left other : List ℕ) → left ≡ other → Went a b text left → Went a b text other
-went-as a b text left other same so = subst (λ (ts : List ℕ). Went a b text ts) same so
-
 -- nothing has gone out yet
 pub start-run : (f : ℕ → List ℕ) (a : Seen) (text : List ℕ) (n end : ℕ) → text ≡ flat_map f (run_from 1 n) → end ≡ n + 1 →
     Went a a text (flat_map f (run_from 1 (end - 1)))
@@ -184,18 +152,18 @@ start-run f a text n end is ends =
 pub next-run : (f : ℕ → List ℕ) (a b c : Seen) (text : List ℕ) (k end : ℕ) → k < end → Went a b text (flat_map f (run_from k (end - k)))
     → Appends b.bytes c.bytes (f k) → c.failed ≡ b.failed → Went a c text (flat_map f (run_from (k + 1) (end - (k + 1))))
 next-run f a b c text k end below so added well =
-    went-piece a b c text (f k) (flat_map f (run_from (k + 1) (end - (k + 1)))) (went-as a b text _ _ (left-at f k end below) so) added well
+    went-piece a b c text (f k) (flat_map f (run_from (k + 1) (end - (k + 1)))) (went-as a b text _ _ (flat-run_from f k end below) so) added well
 
 -- the writer failed at one
 pub fail-run : (f : ℕ → List ℕ) (a b c : Seen) (text : List ℕ) (k end : ℕ) (e : WriteError) → k < end → Went a b text (flat_map f (run_from k (end - k)))
     → AppendsFront b.bytes c.bytes (f k) → c.failed ≡ true → Wrote (Err e) a c text
 fail-run f a b c text k end e below so front failed =
-    wrote-front a b c text (f k) (flat_map f (run_from (k + 1) (end - (k + 1)))) e (went-as a b text _ _ (left-at f k end below) so) front failed
+    wrote-front a b c text (f k) (flat_map f (run_from (k + 1) (end - (k + 1)))) e (went-as a b text _ _ (flat-run_from f k end below) so) front failed
 
 -- all is written
 pub end-run : (f : ℕ → List ℕ) (a b : Seen) (text : List ℕ) (k end : ℕ) → end ≤ k →
     Went a b text (flat_map f (run_from k (end - k))) → Wrote (Ok tt) a b text
-end-run f a b text k end over so = wrote-all a b text (went-as a b text _ _ (left-end f k end over) so)
+end-run f a b text k end over so = wrote-all a b text (went-as a b text _ _ (flat-run_past f k end over) so)
 
 -- ## Over a list
 

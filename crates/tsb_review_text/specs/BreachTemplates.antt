@@ -2,7 +2,7 @@
 -- numbers a to e of a breach; W, X, Y, Z and U are the same as times, in seconds.
 use Rattle.std.specs.Prelude.{ℕ, List, codes}
 use Rattle.tsb_breaches.specs.declared.fault.RuleFault.{RuleFault}
-use Rattle.tsb_breaches.specs.declared.fault.RuleFault.TheVariants.{K1, K2Ring, K2Side, K3, K4Unused, K4Ring, K4Side, K5, K6Unused, K6Ring, K6Missing, K6Again, K6Side, K6Gap, K7Unused, K7Ring, K7Missing, K7Again, K7Side, K7Gap, K8, K9, K10Maximum1, K10Maximum2, K11, K12, K13Unused, K13Walk, K14, K15TrackUnused, K15DwellUnused, K15ExitUnused, K15Track, K15Dwell, K15Exit, K16Track, K16Exit, K17Offset, K17Split, K17Sequence, K17Blank, K18, K19Rings, K19Cycle, K20None, K20Unused, K20Omitted, K20Sides, K20Apart, K20Ends, K20Ring, K21Unused, K21Type, K22, K23, K24, K25, K26, K27Number, K27Unused}
+use Rattle.tsb_breaches.specs.declared.fault.RuleFault.TheVariants.{K1, K2Ring, K2Side, K3, K4Unused, K4Ring, K4Side, K5, K6Unused, K6Ring, K6Missing, K6Again, K6Side, K6Gap, K7Unused, K7Ring, K7Missing, K7Again, K7Side, K7Gap, K8, K9, K10Maximum1, K10Maximum2, K11, K12, K13Unused, K13Walk, K14, K15TrackUnused, K15DwellUnused, K15ExitUnused, K15Track, K15Dwell, K15Exit, K16Track, K16Exit, K17Offset, K17Split, K17Sequence, K17Blank, K18, K19Rings, K19Cycle, K20None, K20Unused, K20Omitted, K20Sides, K20Apart, K20Ends, K20Ring, K21Unused, K21Type, K22, K23, K24, K25, K26, K27Number, K27Unused, K28Empty, K28Turns, K28Together, K29Yellow, K29Type}
 
 -- the text of a breach
 abbrev pub breach_template : RuleFault → List ℕ
@@ -66,3 +66,8 @@ breach_template K25 = codes "K25 entry P: its day plan Q has no event"
 breach_template K26 = codes "K26 day plan P, event Q: its action R is not defined"
 breach_template K27Number = codes "K27 action P: it asks for pattern Q, and there are 16"
 breach_template K27Unused = codes "K27 action P: it asks for pattern Q, which is not used"
+breach_template K28Empty = codes "K28 overlap P: it is an arrow, and includes no phase"
+breach_template K28Turns = codes "K28 overlap P: it is an arrow with Q modifier phases, not 1"
+breach_template K28Together = codes "K28 overlap P: its modifier phase goes with phase Q"
+breach_template K29Yellow = codes "K29 overlap P: its trailing yellow of X s is under 3.0 s"
+breach_template K29Type = codes "K29 overlap P: it trails, and its type is Q"

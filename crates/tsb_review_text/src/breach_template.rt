@@ -89,5 +89,10 @@ pub(crate) fn breach_template(fault: RuleFault) -> &'static [u8]
         RuleFault::K26 => b"K26 day plan P, event Q: its action R is not defined",
         RuleFault::K27Number => b"K27 action P: it asks for pattern Q, and there are 16",
         RuleFault::K27Unused => b"K27 action P: it asks for pattern Q, which is not used",
+        RuleFault::K28Empty => b"K28 overlap P: it is an arrow, and includes no phase",
+        RuleFault::K28Turns => b"K28 overlap P: it is an arrow with Q modifier phases, not 1",
+        RuleFault::K28Together => b"K28 overlap P: its modifier phase goes with phase Q",
+        RuleFault::K29Yellow => b"K29 overlap P: its trailing yellow of X s is under 3.0 s",
+        RuleFault::K29Type => b"K29 overlap P: it trails, and its type is Q",
     }
 }

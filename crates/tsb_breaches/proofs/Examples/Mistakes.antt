@@ -8,7 +8,7 @@ use Rattle.tsb_plan.specs.Plan.{Plan, is_enabled, with_value, with_values, yello
 use Rattle.tsb_plan.specs.Quad.{quad}
 use Rattle.tsb_rules.specs.declared.rules.Rule.TheVariants.{K8, K20, K23}
 use Rattle.tsb_rules.specs.PatternRules.{coordinated_count, side_sum, split_end, split_sum}
-use Rattle.tsb_rules.specs.Rules.{broken_by_extensions, broken_by_parts, broken_by_phases, broken_by_rings, broken_by_schedule, first_broken}
+use Rattle.tsb_rules.specs.Rules.{broken_by_extensions, broken_by_parts, broken_by_phases, broken_by_rings, broken_by_schedule, broken_by_overlaps, first_broken}
 use Rattle.tsb_breaches.specs.declared.fault.RuleFault.TheVariants.{K20Ends}
 use Rattle.tsb_breaches.specs.Breaches.{of_pattern_phases}
 use Rattle.tsb_breaches.specs.Patterns.{are_together, permits_always}
@@ -16,7 +16,7 @@ use Rattle.tsb_breaches.specs.Phases.{has_short_yellow}
 
 -- what a computed line opens
 unfoldable pub opened : Unit {0}
-unfolding quad run_from first_broken broken_by_rings broken_by_phases broken_by_parts broken_by_extensions broken_by_schedule split_sum side_sum split_end coordinated_count
+unfolding quad run_from first_broken broken_by_rings broken_by_phases broken_by_parts broken_by_extensions broken_by_schedule broken_by_overlaps split_sum side_sum split_end coordinated_count
 opened = tt
 
 -- ## K8 tells a yellow of 3 seconds too

@@ -12,7 +12,7 @@ use Rattle.tsb_field_display.specs.Events.{events_of, events_of_lines}
 use Rattle.tsb_field_display.specs.ReadBack.{read_back}
 use Rattle.tsb_field_display.specs.Laws.{AreAllApart}
 use Rattle.tsb_field_display.specs.Stream.{shown_lines}
-use Rattle.tsb_field_display.proofs.LetterLemmas.{apart-pedestrians, apart-overlaps}
+use Rattle.tsb_field_display.proofs.LetterLemmas.{apart-pedestrians, apart-overlaps, apart-green_arrows, apart-yellow_arrows}
 
 -- what a computed line opens
 unfoldable pub opened : Unit {0}
@@ -24,9 +24,9 @@ opened = tt
 yellow : shown_of false (codes "0000101 -Y-R------------ -C-------------- G--- 2 0759") ≡ Some (record {
   tick = 101;
   signals = record {
-    vehicles = record { greens = set_of_list 0; yellows = set_of_list 2; reds = set_of_list 8; flashing = set_of_list 0 };
+    vehicles = record { greens = set_of_list 0; yellows = set_of_list 2; reds = set_of_list 8; flashing = set_of_list 0; arrows = set_of_list 0 };
     pedestrians = record { walks = set_of_list 0; clearances = set_of_list 2; dont_walks = set_of_list 0 };
-    overlaps = record { greens = set_of_list 1; yellows = set_of_list 0; reds = set_of_list 0; flashing = set_of_list 0 };
+    overlaps = record { greens = set_of_list 1; yellows = set_of_list 0; reds = set_of_list 0; flashing = set_of_list 0; arrows = set_of_list 0 };
     preempt = Some 2;
   };
 })
@@ -37,14 +37,31 @@ yellow = refl
 wide : shown_of true (codes "0000101 -Y-R------------ -C-------------- G--- 8 0759 G---Y-----------") ≡ Some (record {
   tick = 101;
   signals = record {
-    vehicles = record { greens = set_of_list 0; yellows = set_of_list 2; reds = set_of_list 8; flashing = set_of_list 0 };
+    vehicles = record { greens = set_of_list 0; yellows = set_of_list 2; reds = set_of_list 8; flashing = set_of_list 0; arrows = set_of_list 0 };
     pedestrians = record { walks = set_of_list 0; clearances = set_of_list 2; dont_walks = set_of_list 0 };
-    overlaps = record { greens = set_of_list 1; yellows = set_of_list 16; reds = set_of_list 0; flashing = set_of_list 0 };
+    overlaps = record { greens = set_of_list 1; yellows = set_of_list 16; reds = set_of_list 0; flashing = set_of_list 0; arrows = set_of_list 0 };
     preempt = Some 8;
   };
 })
 unfolding opened
 wide = refl
+
+-- overlap 2 is an arrow that flashes; no phase does
+arrow : shown_of false (codes "0000101 -G-R------------ -D-------------- RP-- 0 ----") ≡ Some (record {
+  tick = 101;
+  signals = record {
+    vehicles = record { greens = set_of_list 2; yellows = set_of_list 0; reds = set_of_list 8; flashing = set_of_list 0; arrows = set_of_list 0 };
+    pedestrians = record { walks = set_of_list 0; clearances = set_of_list 0; dont_walks = set_of_list 2 };
+    overlaps = record { greens = set_of_list 0; yellows = set_of_list 0; reds = set_of_list 1; flashing = set_of_list 0; arrows = set_of_list 2 };
+    preempt = None;
+  };
+})
+unfolding opened
+arrow = refl
+
+no_phase_flashes : shown_of false (codes "0000101 -P-R------------ -D-------------- RP-- 0 ----") ≡ None
+unfolding opened
+no_phase_flashes = refl
 
 -- where lines are wide the others are none, and where they are not the wide ones are none
 not_wide : shown_of true (codes "0000101 -Y-R------------ -C-------------- G--- 8 0759") ≡ None
@@ -137,10 +154,24 @@ whole : events_of_lines (at 1 red ∷ at 2 green ∷ at 3 clearing ∷ at 4 endi
 unfolding opened
 whole = refl
 
+-- an arrow begins to flash as phase 2 is green, has its yellow, and flashes again; then it is red
+abbrev pub arrow_at : ℕ → Signals
+arrow_at letter = signals_of false (codes "0000000 -G-------------- -D-------------- -" ++ letter ∷ codes "-- 0 ----")
+
+arrows_tell : events_of_lines (at 1 (arrow_at 82) ∷ at 2 (arrow_at 80) ∷ at 3 (arrow_at 89) ∷ at 4 (arrow_at 80) ∷ at 5 (arrow_at 71) ∷ at 6 (arrow_at 82) ∷ [])
+    ≡ event 1 1 2 ∷ event 2 32 2 ∷ event 3 33 2 ∷ event 3 63 2 ∷ event 4 32 2 ∷ event 5 33 2 ∷ event 5 61 2 ∷ event 6 64 2 ∷ []
+unfolding opened
+arrows_tell = refl
+
 -- ## Lines that meet the premise of the law on what events tell
 
 are_apart : (line : List ℕ) → AreApart (signals_of false line)
-are_apart line = record { pedestrians = apart-pedestrians _; overlaps = apart-overlaps _ }
+are_apart line = record {
+  pedestrians = apart-pedestrians _;
+  overlaps = apart-overlaps _;
+  green_arrows = apart-green_arrows _;
+  yellow_arrows = apart-yellow_arrows _;
+}
 
 met : AreAllApart (at 1 red ∷ at 2 green ∷ at 3 clearing ∷ [])
 met = (are_apart red_line, (are_apart green_line, (are_apart clearing_line, tt)))

@@ -1,5 +1,5 @@
 -- One-line mistakes, each with an example that tells it from the definition.
-use Rattle.std.specs.Prelude.{◌≡◌, ℕ, ◌+◌, ◌==◌, true, false, not, List, [], ◌∷◌, ◌++◌, codes, filter, reverse, if◌then◌else◌, Some, refl}
+use Rattle.std.specs.Prelude.{◌≡◌, ℕ, ◌+◌, ◌==◌, Bool, true, false, not, List, [], ◌∷◌, ◌++◌, codes, filter, reverse, if◌then◌else◌, Option, Some, None, refl}
 use Rattle.tsb_types.specs.Events.{event}
 use Rattle.tsb_types.specs.Lists.{run_from}
 use Rattle.tsb_types.specs.declared.event.Event.{Event}
@@ -10,11 +10,11 @@ use Rattle.tsb_display_text.specs.tsb_heads.Heads.{Heads}
 use Rattle.tsb_field_display.specs.declared.shown.Shown.{Shown}
 use Rattle.tsb_field_display.specs.declared.shown.Signals.{Signals}
 use Rattle.tsb_field_display.specs.Events.{events_of_lines, is_yellow, is_clearance}
-use Rattle.tsb_field_display.specs.Reading.{field, signals_of, vehicles_of}
+use Rattle.tsb_field_display.specs.Reading.{field, is_spelled, signals_of, vehicles_of}
 use Rattle.tsb_field_display.specs.Remaining.{changes_of, remaining, before_tick}
-use Rattle.tsb_field_display.specs.ReadBack.{read_back}
+use Rattle.tsb_field_display.specs.ReadBack.{lit_after, read_back, says_at}
 use Rattle.tsb_field_display.specs.Shows.{are_same_vehicles, aspect_of}
-use Rattle.tsb_field_display.proofs.Examples.Examples.{opened, at, red, green, clearing, ending}
+use Rattle.tsb_field_display.proofs.Examples.Examples.{opened, arrow_at, at, red, green, clearing, ending}
 
 -- ## Events without code 9
 
@@ -107,3 +107,27 @@ tells_all = refl
 
 would_tell_none : vehicle_changes_after green (at 2 green ∷ at 3 clearing ∷ []) ≡ []
 would_tell_none = refl
+
+-- ## The letter of an arrow that flashes is spelled at phases too
+
+abbrev pub is_spelled_at_phases : List ℕ → Bool
+is_spelled_at_phases line = is_spelled (codes "-RYGPF") (field 8 16 line)
+
+would_be_taken : is_spelled_at_phases (codes "0000101 -P-R------------ -D-------------- RP-- 0 ----") ≡ true
+would_be_taken = refl
+
+-- ## An arrow that begins to flash is lit still green
+
+abbrev pub says_green_alone : ℕ → Option Bool
+says_green_alone code = if code == 61 then Some true else (if code == 63 then Some false else (if code == 64 then Some false else None))
+
+abbrev pub flashes_after_green : List Shown
+flashes_after_green = at 1 (arrow_at 71) ∷ at 2 (arrow_at 80) ∷ []
+
+green_ends : (read_back (events_of_lines flashes_after_green)).overlap_green 2 ≡ false
+unfolding opened
+green_ends = refl
+
+would_stay_green : lit_after (says_at says_green_alone 2) false (events_of_lines flashes_after_green) ≡ true
+unfolding opened
+would_stay_green = refl

@@ -4,7 +4,7 @@ use Rattle.tsb_lines.specs.Seen.{seen}
 use Rattle.tsb_review_text.specs.Lines.{breaches_text}
 use Rattle.tsb_review_text.specs.Written.{text_of}
 use Rattle.tsb_review_text.specs.declared.review.Remark.TheVariants as remarks
-use Rattle.tsb_review_text.proofs.WriteLemmas.{Went}
+use Rattle.tsb_lines.proofs.StreamLemmas.{Went}
 use Rattle.tsb_review_text.proofs.review.write_breaches.Given as goal
 
 -- what has gone out, and what is left, are all

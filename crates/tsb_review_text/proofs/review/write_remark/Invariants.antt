@@ -3,7 +3,7 @@ use Rattle.tsb_types.specs.Lists.{run_from}
 use Rattle.tsb_plan.specs.PlanOf.{plan_of}
 use Rattle.tsb_lines.specs.Seen.{seen}
 use Rattle.tsb_review_text.specs.Written.{text_from, text_of}
-use Rattle.tsb_review_text.proofs.WriteLemmas.{Went}
+use Rattle.tsb_lines.proofs.StreamLemmas.{Went}
 use Rattle.tsb_review_text.proofs.review.write_remark.Given as goal
 
 -- what has gone out, and what is left, are all

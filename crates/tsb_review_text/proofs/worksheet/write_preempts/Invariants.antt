@@ -2,7 +2,7 @@ use Rattle.std.proofs.Common.{drop, flat_map}
 use Rattle.tsb_plan.specs.PlanOf.{plan_of}
 use Rattle.tsb_lines.specs.Seen.{seen}
 use Rattle.tsb_review_text.specs.Worksheet.{preempt_text, preempts_text}
-use Rattle.tsb_review_text.proofs.WriteLemmas.{Went}
+use Rattle.tsb_lines.proofs.StreamLemmas.{Went}
 use Rattle.tsb_review_text.proofs.worksheet.write_preempts.Given as goal
 
 -- what has gone out, and what is left, are all
