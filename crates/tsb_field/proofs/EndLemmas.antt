@@ -55,6 +55,13 @@ use Rattle.tsb_field_streams.specs.declared.filter.Summary.{Summary}
 use Rattle.tsb_field.specs.LogEnds.{IsPassedOn, Logged, LoggedBeside, LoggedBy, LoggedWith, NoPlan, TellsFault}
 use Rattle.tsb_words.specs.FieldWords.{LogWish}
 use Rattle.tsb_field.specs.ReviewEnds.{Answered}
+use Rattle.std.proofs.Math.Path.{fun_ext}
+use Rattle.tsb_card.specs.declared.card.Card.{Card}
+use Rattle.tsb_card.specs.declared.read.CardFault.{CardFault}
+use Rattle.tsb_card.specs.Card.{permits}
+use Rattle.tsb_card.specs.Lines.{others_text}
+use Rattle.tsb_card.specs.Reading.{Gives, has_pair, pairs_of}
+use Rattle.tsb_field.specs.CardEnds.{Carded, ReadCompared, fault_line, status_of}
 use Rattle.tsb_field.specs.Ends.{Drawn, Draws, IsDiagram, LogNamed, NamesLog, NoRun, NotDrawn, RanSo, Recorded, RecordedOn, Scheduled, Stops, Told, ToldOn, Worked, Writes, WritesEnd, WritesMade, failure_by, name_of}
 
 -- there is no log
@@ -276,3 +283,30 @@ no-worksheet-by (faults.Refused fault) clue status path file old new told tells 
 pub no-worksheet : (fault : PlanFault) (status : ℕ) (path : List ℕ) (file : Option (List ℕ)) (old new told tells : Seen) → HasNoPlan fault.why fault.clue file → new ≡ old
     → TellsNoPlan path fault status told tells → Worked status path file old new told tells
 no-worksheet fault status path file old new told tells has same line = no-worksheet-by fault.why fault.clue status path file old new told tells has same line
+
+-- ## Cards
+
+-- there is no plan whose card is asked for
+no-card-by : (why : ReadError PlanError) (clue : Option PlanClue) (status : ℕ) (path : List ℕ) (against : Option (List ℕ)) (files : List ℕ → Option (List ℕ)) (old new told tells : Seen) → HasNoPlan why clue (files path)
+    → new ≡ old → TellsWhy path why clue status told tells → Carded status path against files old new told tells
+no-card-by (faults.Failed why) clue status path against files old new told tells has same line = inr (inr (same, (why, line)))
+no-card-by (faults.Refused fault) clue status path against files old new told tells has same line = inr (inl (fault, clue, has, same, line))
+
+pub no-card : (fault : PlanFault) (status : ℕ) (path : List ℕ) (against : Option (List ℕ)) (files : List ℕ → Option (List ℕ)) (old new told tells : Seen) → HasNoPlan fault.why fault.clue (files path)
+    → new ≡ old → TellsNoPlan path fault status told tells → Carded status path against files old new told tells
+no-card fault status path against files old new told tells has same line = no-card-by fault.why fault.clue status path against files old new told tells has same line
+
+-- the card in a text was compared
+pub card-compared : (wanted : ℕ → ℕ → Bool) (card : Card) (text : List ℕ) (status : ℕ) (before after : Devices) → Gives (Ok card) (pairs_of text)
+    → ReadsNothing (Answered status (status_of wanted (permits card)) (others_text wanted (permits card))) before after → ReadsNothing (ReadCompared wanted (pairs_of text) status) before after
+card-compared wanted card text status before after given compared =
+    let same : permits card ≡ has_pair given.0 = fun_ext (λ a. fun_ext (λ b. given.2 a b)) in
+    subst (λ (read : Result (List (ℕ × ℕ)) CardFault). ReadsNothing (ReadCompared wanted read status) before after) (sym given.1)
+    (subst (λ (found : ℕ → ℕ → Bool). ReadsNothing (Answered status (status_of wanted found) (others_text wanted found)) before after) same compared)
+
+-- a text is no card
+pub no-card-read : (wanted : ℕ → ℕ → Bool) (fault : CardFault) (text line : List ℕ) (status : ℕ) (before after : Devices) → Gives (Err fault) (pairs_of text) → status ≡ 1 → line ≡ fault_line fault
+    → OnlyTells (λ told tells. Tells told tells line) before after → ReadsNothing (ReadCompared wanted (pairs_of text) status) before after
+no-card-read wanted fault text line status before after given one same told =
+    subst (λ (read : Result (List (ℕ × ℕ)) CardFault). ReadsNothing (ReadCompared wanted read status) before after) (sym given)
+    (told.0.0, (one, told.0.1, subst (λ (said : List ℕ). Tells before.errors after.errors said) same told.1))

@@ -46,13 +46,14 @@ use Rattle.tsb_text.specs.tsb_plan_text.declared.error.PlanError.{PlanError}
 use Rattle.tsb_words.specs.FieldProgram.{Spells}
 use Rattle.tsb_words.specs.Near.{field_near}
 use Rattle.tsb_words.specs.Wrong.{Wrong, field_wrong}
-use Rattle.tsb_words.specs.FieldWords.{Wish, diagram, events, log, recording, reviewing, seen, weekly, worksheet}
+use Rattle.tsb_words.specs.FieldWords.{Wish, card, diagram, events, log, recording, reviewing, seen, weekly, worksheet}
 use Rattle.tsb_words.specs.declared.field_files.Asked.{Asked}
 use Rattle.tsb_words.specs.declared.field_files.DiagramAsked.{DiagramAsked}
 use Rattle.tsb_words.specs.declared.field_files.RecordManner.{RecordManner}
 use Rattle.tsb_words.specs.declared.error.WordsError.{WordsError}
 use Rattle.tsb_program.specs.Devices.{Devices, OnlyTells, ReadsNothing}
 use Rattle.tsb_program.specs.Runs.{TellsWords, after_fault}
+use Rattle.tsb_field.specs.CardEnds.{Carded}
 use Rattle.tsb_field.specs.Clocks.{clock_of, lacks_clock}
 use Rattle.tsb_field.specs.Lines.{TellsLate, TellsNoClock, usage_for}
 use Rattle.tsb_field.specs.GreenEnds.{HasEnds, NoEnds}
@@ -270,6 +271,7 @@ DidWish (diagram path is_wide title seconds from told_by) status files before af
     Pictured is_wide status (form_of title seconds from) told_by files path before after
 DidWish (weekly plan week svg) status files before after = ReadsNothing (Scheduled status plan week svg (files plan)) before after
 DidWish (worksheet plan) status files before after = ReadsNothing (Worked status plan (files plan)) before after
+DidWish (card plan against) status files before after = ReadsNothing (Carded status plan against files) before after
 DidWish (reviewing plan) status files before after = ReadsNothing (Reviewed status plan (files plan)) before after
 
 -- what was done for what the words ask, where this right word is near a bad one, or this is wrong with them

@@ -8,6 +8,8 @@ pub mod Twice
 pub mod LogEnds
 -- how `review` ends
 pub mod ReviewEnds
+-- how `card` ends
+pub mod CardEnds
 -- the ends of greens in the event log of a diagram
 pub mod GreenEnds
 -- the clock that a record begins with

@@ -6,7 +6,7 @@ use Rattle.tsb_words.specs.Wrong.{Wrong, wrong_line}
 -- how the program is used
 abbrev pub usage : List ℕ
 usage =
-    codes "usage: tsb_field log --from TIME [--device ID] [--time-form FORM] [--zone OFFSET] [--count] [--allow-empty]\n          [--sort] [--sort-within SECONDS] [--as-outputs PLAN]\n          [--vehicle CHANNEL=DETECTOR].. [--pedestrian CHANNEL=DETECTOR].. [--preempt CHANNEL=INPUT]..\n    or tsb_field record --from TIME --device ID [--go-on] [--recalls] [--outputs] [--no-clock] PLAN LOG\n    or tsb_field events --from TIME --device ID [--log LOG]\n    or tsb_field diagram [--log LOG] [--title TEXT] [--seconds-per-line N] [--from TIME [--events FILE]]\n    or tsb_field review PLAN\n    or tsb_field schedule [--svg] --week DATE PLAN\n    or tsb_field worksheet PLAN\n"
+    codes "usage: tsb_field log --from TIME [--device ID] [--time-form FORM] [--zone OFFSET] [--count] [--allow-empty]\n          [--sort] [--sort-within SECONDS] [--as-outputs PLAN]\n          [--vehicle CHANNEL=DETECTOR].. [--pedestrian CHANNEL=DETECTOR].. [--preempt CHANNEL=INPUT]..\n    or tsb_field record --from TIME --device ID [--go-on] [--recalls] [--outputs] [--no-clock] PLAN LOG\n    or tsb_field events --from TIME --device ID [--log LOG]\n    or tsb_field diagram [--log LOG] [--title TEXT] [--seconds-per-line N] [--from TIME [--events FILE]]\n    or tsb_field review PLAN\n    or tsb_field schedule [--svg] --week DATE PLAN\n    or tsb_field worksheet PLAN\n    or tsb_field card [--against FILE] PLAN\n"
 
 -- what is said of bad words that are near no right word: what is wrong with them, or else how the program is used
 abbrev pub usage_for : Option Wrong → List ℕ

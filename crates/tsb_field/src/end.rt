@@ -26,6 +26,7 @@ pub(crate) const USAGE: &[u8] =
     or tsb_field review PLAN
     or tsb_field schedule [--svg] --week DATE PLAN
     or tsb_field worksheet PLAN
+    or tsb_field card [--against FILE] PLAN
 ";
 
 /// Reports why words ask for nothing: for bad words the right word that was perhaps meant, or what is wrong with them, or

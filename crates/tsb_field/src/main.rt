@@ -1,9 +1,10 @@
 //! Field files in, events and pictures out: `tsb_field log` makes a log for `tsb` from a controller's event log, and
 //! `tsb_field events` and `tsb_field diagram` make an event log and a phase diagram from what `tsb` answers. `tsb_field
 //! review` says what can be wrong with a plan that runs, `tsb_field schedule` what its schedule runs in a week, and
-//! `tsb_field worksheet` which times follow of it.
+//! `tsb_field worksheet` which times follow of it. `tsb_field card` says which channels a monitor has to permit together.
 #![tactic(auto)]
 
+mod card_run;
 mod clock;
 mod diagram_run;
 mod end;

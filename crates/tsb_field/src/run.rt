@@ -9,6 +9,7 @@ ghost use Rattle.tsb_words.specs.Pages.{field_page};
 ghost use Rattle.tsb_words.specs.Wrong.{field_wrong};
 ghost use Rattle.tsb_field.specs.Ends.{Answered, Did, DidWish};
 
+use crate::card_run::write_card_of;
 use crate::diagram_run::write_diagram;
 use crate::end::tell_words;
 use crate::events_run::write_events;
@@ -25,12 +26,12 @@ use tsb_words::field_files::{Asked, read_words};
 use tsb_words::pages::field_page;
 
 /// Does what the words ask for, the first of which is the program's name, and gives the status that the program ends
-/// with: 0 where all was done, 1 for bad input, 2 for bad words, 3 where a read, a write or memory failed, 4 where a line
-/// ended a strict record.
+/// with: 0 where all was done, 1 for bad input, 2 for bad words, 3 where a read, a write or memory failed. It is 4 where a
+/// line ended a strict record, and 5 where a card differs.
 ///
-/// The log, the events, the diagram, the review, the week or the worksheet go to the output. What was left out, faults, bad words and failures go
-/// to the errors. A second line has where the text of a plan stops being JSON, or what was not read. The version and the
-/// help, where the words ask for one of them, go to the output.
+/// The log, the events, the diagram, the review, the week, the worksheet or the card go to the output. What was left out,
+/// faults, bad words and failures go to the errors. A second line has where the text of a plan stops being JSON, or what
+/// was not read. The version and the help, where the words ask for one of them, go to the output.
 pub fn run_words<S: AsStr, F: Files, R: Read, W: Write, E: Write>(
     alloc: Global,
     words: &[S],
@@ -89,5 +90,6 @@ fn run_wish<F: Files, R: Read, W: Write, E: Write>(
             write_schedule(alloc, plan, *week, *svg, files, streams)
         }
         Asked::Worksheet { plan } => write_worksheet_of(alloc, plan, files, streams),
+        Asked::Card { plan, against } => write_card_of(alloc, plan, *against, files, streams),
     }
 }

@@ -10,7 +10,7 @@ use Rattle.tsb_event_text.specs.declared.times.Moment.{Moment}
 use Rattle.tsb_event_text.specs.declared.zones.Zone.{Zone}
 use Rattle.tsb_words.specs.declared.field_files.Manner.{Manner}
 use Rattle.tsb_words.specs.declared.field_files.RecordManner.{RecordManner}
-use Rattle.tsb_words.specs.FieldProgram.{diagram_in, diagram_with, events_in, events_with, form_said, from_said, is_set, log_in, log_with, manner_in, manner_with, moment_in, record_in, record_manner_in, record_with, review_in, review_with, schedule_in, schedule_with, seconds_said, texts_in, window_in, window_said, wires_in, worksheet_in, worksheet_with, zone_said}
+use Rattle.tsb_words.specs.FieldProgram.{card_in, card_with, diagram_in, diagram_with, events_in, events_with, form_said, from_said, is_set, log_in, log_with, manner_in, manner_with, moment_in, record_in, record_manner_in, record_with, review_in, review_with, schedule_in, schedule_with, seconds_said, texts_in, window_in, window_said, wires_in, worksheet_in, worksheet_with, zone_said}
 use Rattle.tsb_field_log.specs.declared.inputs.Wire.{Wire}
 use Rattle.tsb_words.specs.FieldWords.{Wish, log}
 
@@ -81,6 +81,14 @@ getters_schedule f asked plan week flag svg plan-is week-is flag-is svg-is is =
 pub getters_worksheet : (f : Found) (asked : Option Wish) (plan : Option Text) → plan ≡ first_value f (codes "PLAN") → asked ≡ worksheet_with plan
     → asked ≡ worksheet_in (rows_of f)
 getters_worksheet f asked plan plan-is is = is ∙ ap worksheet_with (sym (first_is f (codes "PLAN") plan plan-is))
+
+-- and what `card` asks for
+pub getters_card : (f : Found) (asked : Option Wish) (plan against : Option Text) → plan ≡ first_value f (codes "PLAN") → against ≡ first_value f (codes "against") → asked ≡ card_with plan against
+    → asked ≡ card_in (rows_of f)
+getters_card f asked plan against plan-is against-is is =
+    let plan-there : plan ≡ first_of (codes "PLAN") (rows_of f) = sym (first_is f (codes "PLAN") plan plan-is) in
+    let against-there : against ≡ first_of (codes "against") (rows_of f) = sym (first_is f (codes "against") against against-is) in
+    is ∙ (λ j. card_with (plan-there j) (against-there j))
 
 -- the values of an option, as a getter answers them
 pub texts_is : (f : Found) (id : Text) (o : Option (List Text)) → o ≡ option_map raw_values (matched_of f id) → unwrap_or o [] ≡ texts_in id (rows_of f)

@@ -16,7 +16,7 @@ use Rattle.tsb_words.specs.declared.field_files.Manner.{Manner}
 use Rattle.tsb_words.specs.declared.field_files.RecordManner.{RecordManner}
 use Rattle.tsb_words.specs.declared.error.WordsError.{WordsError}
 use Rattle.tsb_words.specs.Commands.{file_rule, flag_rule, option_rule, repeated_rule, required_rule}
-use Rattle.tsb_words.specs.FieldWords.{Wish, diagram, events, log, midnight, recording, reviewing, seconds_of, seen, weekly, window_of, worksheet}
+use Rattle.tsb_words.specs.FieldWords.{Wish, card, diagram, events, log, midnight, recording, reviewing, seconds_of, seen, weekly, window_of, worksheet}
 use Rattle.tsb_command_text.specs.clock.ClockText.{clock_of}
 use Rattle.tsb_words.specs.Words.{SpelledBy, met_by}
 use Rattle.tsb_words.specs.Wires.{joined, wires_of}
@@ -76,11 +76,16 @@ schedule_shape = shape_with (codes "schedule") (file_rule (codes "PLAN") ∷ req
 abbrev pub worksheet_shape : Shape
 worksheet_shape = shape_with (codes "worksheet") (file_rule (codes "PLAN") ∷ [])
 
+-- those of `card`
+abbrev pub card_shape : Shape
+card_shape = shape_with (codes "card") (file_rule (codes "PLAN") ∷ option_rule (codes "against") ∷ [])
+
 -- the program with its subcommands
 abbrev pub program : App
 program = record {
   top = record (new_shape (codes "tsb_field")) { is_leaf = false };
-  subs = log_shape ∷ record_shape ∷ events_shape ∷ diagram_shape ∷ review_shape ∷ schedule_shape ∷ worksheet_shape ∷ [];
+  subs = log_shape ∷ record_shape ∷ events_shape ∷ diagram_shape ∷ review_shape ∷ schedule_shape ∷ worksheet_shape
+      ∷ card_shape ∷ [];
 }
 
 -- the values of an option that may come several times
@@ -243,6 +248,15 @@ worksheet_with (Some plan) = Some (worksheet plan)
 abbrev pub worksheet_in : List Row → Option Wish
 worksheet_in rows = worksheet_with (first_of (codes "PLAN") rows)
 
+-- a card, where a plan is named, and that of a file beside it, if one is named too
+abbrev pub card_with : Option Text → Option Text → Option Wish
+card_with None against = None
+card_with (Some plan) against = Some (card plan against)
+
+-- what `card` asks for, with this file and this option
+abbrev pub card_in : List Row → Option Wish
+card_in rows = card_with (first_of (codes "PLAN") rows) (first_of (codes "against") rows)
+
 -- what a subcommand of this name that is not `log` asks for, with these options
 abbrev pub other_in : Text → List Row → Option Wish
 other_in name rows =
@@ -250,7 +264,8 @@ other_in name rows =
     else (if bytes_eq name (codes "events") then events_in rows
     else (if bytes_eq name (codes "diagram") then diagram_in rows
     else (if bytes_eq name (codes "schedule") then schedule_in rows
-    else (if bytes_eq name (codes "worksheet") then worksheet_in rows else review_in rows))))
+    else (if bytes_eq name (codes "worksheet") then worksheet_in rows
+    else (if bytes_eq name (codes "card") then card_in rows else review_in rows)))))
 
 -- what the subcommand asks for that was met, with its options
 abbrev pub asked_by : Option (Text × List Row) → Option Wish

@@ -36,6 +36,8 @@ pub data Wish : Type 0 where
   weekly : List ℕ → ℕ → Bool → Wish
   -- the worksheet of the plan in this file
   worksheet : List ℕ → Wish
+  -- the card of the plan in this file, or what the card in the other one has otherwise, where one is named
+  card : List ℕ → Option (List ℕ) → Wish
 
 -- the time of day at which a week begins
 abbrev pub midnight : List ℕ
@@ -80,3 +82,4 @@ seen (asks.Diagram asked) =
 seen (asks.Review plan) = reviewing plan.now
 seen (asks.Schedule plan week svg) = weekly plan.now week svg
 seen (asks.Worksheet plan) = worksheet plan.now
+seen (asks.Card plan against) = card plan.now (option_map (λ name. name.now) against)

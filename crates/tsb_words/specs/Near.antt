@@ -79,7 +79,8 @@ words_of command =
     else (if bytes_eq command (codes "diagram") then map (λ right. right.now) words.DIAGRAM
     else (if bytes_eq command (codes "review") then map (λ right. right.now) words.REVIEW
     else (if bytes_eq command (codes "schedule") then (map (λ right. right.now) words.SCHEDULE)
-    else (if bytes_eq command (codes "worksheet") then (map (λ right. right.now) words.WORKSHEET) else []))))))
+    else (if bytes_eq command (codes "worksheet") then (map (λ right. right.now) words.WORKSHEET)
+    else (if bytes_eq command (codes "card") then (map (λ right. right.now) words.CARD) else [])))))))
 
 -- the right word that was perhaps meant by a wrong one of `tsb_live`; the first of all words is the program's name
 abbrev pub live_near : List Text → Option Text

@@ -26,7 +26,8 @@ subcommand_page name =
     else (if bytes_eq name (codes "diagram") then Some texts.DIAGRAM_HELP.now
     else (if bytes_eq name (codes "review") then Some texts.REVIEW_HELP.now
     else (if bytes_eq name (codes "schedule") then Some texts.SCHEDULE_HELP.now
-    else (if bytes_eq name (codes "worksheet") then Some texts.WORKSHEET_HELP.now else None))))))
+    else (if bytes_eq name (codes "worksheet") then Some texts.WORKSHEET_HELP.now
+    else (if bytes_eq name (codes "card") then Some texts.CARD_HELP.now else None)))))))
 
 -- the same, where this option asks for it
 abbrev pub help_page : Text → Text → Option (List ℕ)

@@ -89,7 +89,8 @@ device_of command = if writes_device command then takes.Device else takes.Text
 -- an option of this name takes any text
 abbrev pub is_text : Text → Bool
 is_text name =
-    bytes_eq name (codes "--as-outputs") || (bytes_eq name (codes "--log") || (bytes_eq name (codes "--title") || bytes_eq name (codes "--events")))
+    bytes_eq name (codes "--as-outputs") || (bytes_eq name (codes "--log") || (bytes_eq name (codes "--title")
+    || (bytes_eq name (codes "--events") || bytes_eq name (codes "--against"))))
 
 -- what an option takes that is none of times, seconds or devices
 abbrev pub other_value_of : Text → OptionValue
@@ -213,12 +214,13 @@ wrong_in command [] = None
 wrong_in command (word ∷ behind) =
     if bytes_eq word (codes "--") then None else wrong_or (wrong_at command word behind) (wrong_in command behind)
 
--- `--from` has to be given: in each command but `review`, `schedule` and `worksheet`, and in `diagram` where there is
--- `--events`
+-- `--from` has to be given: in each command but `review`, `schedule`, `worksheet` and `card`, and in `diagram` where there
+-- is `--events`
 abbrev pub needs_from : Text → List Text → Bool
 needs_from command words =
     if bytes_eq command (codes "diagram") then has_option (codes "--events") words
-    else not (bytes_eq command (codes "review")) && (not (bytes_eq command (codes "schedule")) && not (bytes_eq command (codes "worksheet")))
+    else not (bytes_eq command (codes "review")) && (not (bytes_eq command (codes "schedule"))
+    && (not (bytes_eq command (codes "worksheet")) && not (bytes_eq command (codes "card"))))
 
 -- what these words lack: an option that has to be given, or else the files of the command
 abbrev pub lacking : Text → List Text → Wrong
@@ -289,7 +291,8 @@ files_text command =
     else (if bytes_eq command (codes "review") then codes "review names one file, PLAN"
     else (if bytes_eq command (codes "schedule") then codes "schedule names one file, PLAN"
     else (if bytes_eq command (codes "worksheet") then codes "worksheet names one file, PLAN"
-    else codes "this command names files by options alone: it reads what `tsb run` answers from standard input"))))
+    else (if bytes_eq command (codes "card") then codes "card names one file, PLAN"
+    else codes "this command names files by options alone: it reads what `tsb run` answers from standard input")))))
 
 -- a value in double quotes
 abbrev pub quoted : Text → List ℕ
@@ -297,7 +300,7 @@ quoted text = codes " \"" ++ (shown text ++ codes "\": ")
 
 -- what is said of words with which this is wrong, without the end of the line
 abbrev pub wrong_text : Wrong → List ℕ
-wrong_text (no_command name) = codes "there is no command \"" ++ (shown name ++ codes "\": log, record, events, diagram, review, schedule or worksheet")
+wrong_text (no_command name) = codes "there is no command \"" ++ (shown name ++ codes "\": log, record, events, diagram, review, schedule, worksheet or card")
 wrong_text (unknown name) = shown name ++ codes ": the command has no such option; --help after it lists all"
 wrong_text (bare name value) = shown name ++ (codes " has no value (one that begins with a hyphen comes after =): " ++ taken_text value)
 wrong_text (bad_value name value text) = shown name ++ (quoted text ++ taken_text value)

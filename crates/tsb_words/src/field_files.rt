@@ -3,7 +3,7 @@ ghost use Rattle.std.specs.Prelude.{◌≡◌, Err, map, option_map};
 ghost use Rattle.clap.specs.Words.{found_of, rows_of};
 ghost use Rattle.clap.specs.Simple.{subcommand_rows_of};
 ghost use Rattle.tsb_words.specs.declared.error.WordsError.TheVariants.{Memory};
-ghost use Rattle.tsb_words.specs.FieldProgram.{HasWires, NeedsMemory, Spells, asked_by, diagram_in, diagram_with, events_in, events_with, is_set, is_timed, log_in, manner_in, manner_with, other_in, record_in, record_manner_in, record_with, review_in, review_with, schedule_in, schedule_with, wires_in, worksheet_in, worksheet_with};
+ghost use Rattle.tsb_words.specs.FieldProgram.{HasWires, NeedsMemory, Spells, asked_by, card_in, card_with, diagram_in, diagram_with, events_in, events_with, is_set, is_timed, log_in, manner_in, manner_with, other_in, record_in, record_manner_in, record_with, review_in, review_with, schedule_in, schedule_with, wires_in, worksheet_in, worksheet_with};
 ghost use Rattle.tsb_words.specs.FieldWords.{seen};
 ghost use Rattle.tsb_words.specs.Wires.{AreSpelled};
 ghost use Rattle.tsb_words.specs.Words.{SpelledBy};
@@ -144,6 +144,13 @@ pub enum Asked<'a> {
         /// The file of the plan.
         plan: &'a str,
     },
+    /// The card of a plan, for a conflict monitor.
+    Card {
+        /// The file of the plan.
+        plan: &'a str,
+        /// The file of the card that is compared with it.
+        against: Option<&'a str>,
+    },
 }
 
 /// What the words ask for, the first of which is the program's name.
@@ -154,7 +161,8 @@ pub enum Asked<'a> {
 /// log, and may have `--go-on`, `--recalls`, `--outputs` and `--no-clock`; `events` has `--from TIME` and `--device ID`,
 /// and may have `--log LOG` and `--wide`; `diagram` may have `--log LOG`, `--wide`, `--title TEXT`, `--seconds-per-line N`,
 /// and `--from TIME`, and with that `--events FILE`; `review` has the file of a plan; `schedule` has the file of a plan,
-/// and `--week DATE`, and may have `--svg`; `worksheet` has the file of a plan.
+/// and `--week DATE`, and may have `--svg`; `worksheet` has the file of a plan; `card` has the file of a plan, and may have
+/// `--against FILE`.
 /// Options come in any order, and `--NAME=VALUE` is `--NAME VALUE`. A value that begins with a hyphen comes after `=`. All
 /// else is `Bad`, and so are a request for help and a device of `record` or `events` with a double quote, an end of a line
 /// or over 900 bytes. `Memory` may come in place of every answer, as `clap` allocates. Where it takes the words, only those
@@ -199,6 +207,8 @@ fn other_asked<'a>(name: &str, options: &ArgMatches<'a>) -> Option<Asked<'a>>
         schedule_asked(options)
     } else if name == "worksheet" {
         worksheet_asked(options)
+    } else if name == "card" {
+        card_asked(options)
     } else {
         review_asked(options)
     }
@@ -468,4 +478,19 @@ fn worksheet_with<'a>(plan: Option<&'a str>) -> Option<Asked<'a>>
 {
     let plan = plan?;
     Some(Asked::Worksheet { plan })
+}
+
+/// What `card` asks for, with this file and this option.
+fn card_asked<'a>(options: &ArgMatches<'a>) -> Option<Asked<'a>>
+    ensures { option_map seen result ≡ card_in (rows_of (found_of options.now)) }
+{
+    card_with(options.get_str("PLAN"), options.get_str("against"))
+}
+
+/// A card, where a plan is named, and that of a file beside it, if one is named too.
+fn card_with<'a>(plan: Option<&'a str>, against: Option<&'a str>) -> Option<Asked<'a>>
+    ensures { option_map seen result ≡ card_with (option_map (λ text. text.now) plan.entry) (option_map (λ text. text.now) against.entry) }
+{
+    let plan = plan?;
+    Some(Asked::Card { plan, against })
 }

@@ -16,7 +16,7 @@ const HINT: usize = 80;
 const LIVE: [&str; 3] = ["--strict", "--version", "--help"];
 
 /// The commands of `tsb_field`, and its own options.
-const COMMANDS: [&str; 9] = [
+const COMMANDS: [&str; 10] = [
     "log",
     "record",
     "events",
@@ -24,6 +24,7 @@ const COMMANDS: [&str; 9] = [
     "review",
     "schedule",
     "worksheet",
+    "card",
     "--version",
     "--help",
 ];
@@ -78,6 +79,9 @@ const SCHEDULE: [&str; 3] = ["--week", "--svg", "--help"];
 
 /// The options of `worksheet`.
 const WORKSHEET: [&str; 1] = ["--help"];
+
+/// The options of `card`.
+const CARD: [&str; 2] = ["--against", "--help"];
 
 /// The right word that was perhaps meant by a wrong one of `tsb_live`: one from which a word differs by a slip of the
 /// hand. That is a letter too much, too few or another, or two that have changed places. The first of all words is the
@@ -148,6 +152,8 @@ pub(crate) fn words_of(command: &str) -> &'static [&'static str]
         &SCHEDULE
     } else if command == "worksheet" {
         &WORKSHEET
+    } else if command == "card" {
+        &CARD
     } else {
         &[]
     }

@@ -6,8 +6,8 @@ mod texts;
 
 use std::convert::AsStr;
 use texts::{
-    DIAGRAM_HELP, EVENTS_HELP, FIELD_HELP, FIELD_VERSION, LIVE_HELP, LIVE_VERSION, LOG_HELP,
-    RECORD_HELP, REVIEW_HELP, SCHEDULE_HELP, WORKSHEET_HELP,
+    CARD_HELP, DIAGRAM_HELP, EVENTS_HELP, FIELD_HELP, FIELD_VERSION, LIVE_HELP, LIVE_VERSION,
+    LOG_HELP, RECORD_HELP, REVIEW_HELP, SCHEDULE_HELP, WORKSHEET_HELP,
 };
 
 /// The page that words of `tsb_live` ask for, by `--version` or `--help` alone. The first word is the program's name.
@@ -84,6 +84,8 @@ fn subcommand_page(name: &str) -> Option<&'static [u8]>
         Some(SCHEDULE_HELP)
     } else if name == "worksheet" {
         Some(WORKSHEET_HELP)
+    } else if name == "card" {
+        Some(CARD_HELP)
     } else {
         None
     }

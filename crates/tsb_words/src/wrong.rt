@@ -235,6 +235,7 @@ fn is_text(name: &[u8]) -> bool
         || name == b"--log".as_slice()
         || name == b"--title".as_slice()
         || name == b"--events".as_slice()
+        || name == b"--against".as_slice()
 }
 
 /// Whether an option that takes this may come once alone.
@@ -386,13 +387,13 @@ fn lacking<'a, S: AsStr>(command: &'a str, words: &'a [S]) -> WrongWord<'a>
     WrongWord::Files(command)
 }
 
-/// Whether `--from` has to be given: in each command but `review`, `schedule` and `worksheet`, and in `diagram` where
-/// there is `--events`.
+/// Whether `--from` has to be given: in each command but `review`, `schedule`, `worksheet` and `card`, and in `diagram`
+/// where there is `--events`.
 fn needs_from<S: AsStr>(command: &str, words: &[S]) -> bool
     ensures { result ≡ needs_from command.now (map S.text words.now) }
 {
     if command == "diagram" {
         return has_option(b"--events", words);
     }
-    command != "review" && command != "schedule" && command != "worksheet"
+    command != "review" && command != "schedule" && command != "worksheet" && command != "card"
 }

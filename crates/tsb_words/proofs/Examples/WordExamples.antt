@@ -5,7 +5,7 @@ use Rattle.clap.proofs.OnLiterals.{clap_on_literals}
 use Rattle.tsb_words.specs.FieldProgram.{wish_of}
 use Rattle.tsb_event_text.specs.Times.{moment_of}
 use Rattle.tsb_words.specs.declared.field_files.RecordManner.{RecordManner}
-use Rattle.tsb_words.specs.FieldWords.{Wish, diagram, recording, reviewing, weekly, worksheet}
+use Rattle.tsb_words.specs.FieldWords.{Wish, card, diagram, recording, reviewing, weekly, worksheet}
 
 -- these words after the program's name
 abbrev given : List Text → List Text
@@ -84,6 +84,19 @@ worksheet-words = refl
 no-worksheet : wish_of (given (codes "worksheet" ∷ [])) ≡ None
 unfolding clap_on_literals
 no-worksheet = refl
+
+-- `card` has a plan, and may have a card to compare with its own
+card-words : wish_of (given (codes "card" ∷ codes "a.plan" ∷ [])) ≡ Some (card (codes "a.plan") None)
+unfolding clap_on_literals
+card-words = refl
+
+card-against : wish_of (given (codes "card" ∷ codes "--against=b.txt" ∷ codes "a.plan" ∷ [])) ≡ Some (card (codes "a.plan") (Some (codes "b.txt")))
+unfolding clap_on_literals
+card-against = refl
+
+no-card : wish_of (given (codes "card" ∷ [])) ≡ None
+unfolding clap_on_literals
+no-card = refl
 
 -- `record` needs a plan and a log
 no-log : wish_of (given (codes "record" ∷ codes "--from=2026-11-22T07:00:00" ∷ codes "--device=7" ∷ codes "a.plan" ∷ [])) ≡ None

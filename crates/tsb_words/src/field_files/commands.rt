@@ -36,6 +36,10 @@ pub(crate) const PROGRAM: Program = Program {
             name: "worksheet",
             arguments: &WORKSHEET,
         },
+        Leaf {
+            name: "card",
+            arguments: &CARD,
+        },
     ],
 };
 
@@ -97,3 +101,6 @@ const SCHEDULE: [Argument; 3] = [
 
 /// The file of `worksheet`.
 const WORKSHEET: [Argument; 1] = [Argument::File("PLAN")];
+
+/// The file and the option of `card`.
+const CARD: [Argument; 2] = [Argument::File("PLAN"), Argument::Optional("against")];

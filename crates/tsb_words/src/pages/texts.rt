@@ -37,11 +37,12 @@ diagram    from what `tsb run` answers to a phase diagram, as SVG
 review     what can be wrong with a plan that runs
 schedule   what the schedule of a plan runs in a week, as a table or a picture
 worksheet  the longest entry of each preempt, and what each split leaves over walk and clearance
+card       the pairs of channels that a conflict monitor has to permit
 
 --version  the version
 --help     this page; after a command, its words with their units and an example
 
-`review`, `schedule` and `worksheet` read a plan, all others standard input. All write standard output.
+`review`, `schedule`, `worksheet` and `card` read a plan, all others standard input. All write standard output.
 docs/use/FIELD.md has more.
 ";
 
@@ -171,4 +172,23 @@ PLAN  the file of the plan, as of `tsb check`
 Example:
 
     tsb_field worksheet plan.json
+";
+
+/// How `card` is used.
+pub(crate) const CARD_HELP: &[u8] = b"usage: tsb_field card [--against FILE] PLAN
+
+Writes the pairs of channels of a conflict monitor that have to be permissive for the plan in this file, a
+pair a line, as 2-6: the jumpers of its program card. Two channels that any run of the plan lights at once
+are a pair, and each pair is of phases that the plan lets go together.
+
+Channels are by channelControlType and channelControlSource; where a plan has neither, 1 to 8 are those
+phases, 9 to 12 overlaps 1 to 4, and 13 to 16 the crosswalks of phases 2, 4, 6 and 8.
+
+PLAN            the file of the plan, as of `tsb check`
+--against FILE  names jumpers that this card has too many, and those that are missing; the status is 5
+                where there are any
+
+Example:
+
+    tsb_field card --against cabinet.txt plan.json
 ";

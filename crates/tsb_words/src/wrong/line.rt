@@ -62,11 +62,11 @@ fn push_word(line: &mut WrongLine, word: &[u8])
 /// Adds that there is no command of this name.
 fn push_no_command(line: &mut WrongLine, name: &[u8])
     ensures { AddsShort LONGEST_WRONG 240 line.old
-        (codes "there is no command \"" ++ (shown name.now ++ codes "\": log, record, events, diagram, review, schedule or worksheet")) line.new }
+        (codes "there is no command \"" ++ (shown name.now ++ codes "\": log, record, events, diagram, review, schedule, worksheet or card")) line.new }
 {
     line.push(b"there is no command \"");
     push_word(line, name);
-    line.push(b"\": log, record, events, diagram, review, schedule or worksheet");
+    line.push(b"\": log, record, events, diagram, review, schedule, worksheet or card");
 }
 
 /// Adds that a command has no option of this name.
@@ -222,6 +222,8 @@ fn files_text(command: &str) -> &'static [u8]
         b"schedule names one file, PLAN"
     } else if command == "worksheet" {
         b"worksheet names one file, PLAN"
+    } else if command == "card" {
+        b"card names one file, PLAN"
     } else {
         b"this command names files by options alone: it reads what `tsb run` answers from standard input"
     }

@@ -14,3 +14,6 @@ returns-in-Schedule g c = rw c.in-Schedule.is c.write_schedule.ensures
 
 pub returns-in-Worksheet : goal.returns-in-Worksheet
 returns-in-Worksheet g c = rw c.in-Worksheet.is c.write_worksheet_of.ensures
+
+pub returns-in-Card : goal.returns-in-Card
+returns-in-Card g c = rw c.in-Card.is c.write_card_of.ensures

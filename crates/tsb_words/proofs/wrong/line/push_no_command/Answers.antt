@@ -5,4 +5,4 @@ use Rattle.tsb_words.proofs.wrong.line.push_no_command.Goals as goal
 
 pub returns : goal.returns
 returns c =
-    at-most (omega arith) (then (part {most = 21} refl (omega arith) c.push.ensures.line) (then c.push_word.ensures (part {most = 62} refl (omega arith) c.push-2.ensures.line)))
+    at-most (omega arith) (then (part {most = 21} refl (omega arith) c.push.ensures.line) (then c.push_word.ensures (part {most = 68} refl (omega arith) c.push-2.ensures.line)))

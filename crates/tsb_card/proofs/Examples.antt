@@ -1,0 +1,2 @@
+-- plans, and the pairs of their cards
+pub mod Mistakes
