@@ -1,4 +1,5 @@
 pub mod TripLemmas
+pub mod TimedLemmas
 pub mod LitLemmas
 pub mod ClearLemmas
 pub mod Examples

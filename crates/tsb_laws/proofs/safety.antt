@@ -1,4 +1,5 @@
 pub mod StretchLemmas
+pub mod UnheldLemmas
 pub mod IntergreenLemmas
 pub mod WalkLemmas
 pub mod FreshStartLemmas

@@ -6,6 +6,7 @@ pub mod CallLemmas
 pub mod PhaseLemmas
 pub mod RingLemmas
 pub mod PreemptLemmas
+pub mod OverlapLemmas
 pub mod TripLemmas
 pub mod StepLemmas
 pub mod ToldLemmas

@@ -14,7 +14,7 @@ use Rattle.tsb_step.specs.declared.inputs.Input.TheVariants.{Tick}
 use Rattle.tsb_step.specs.State.{State, interval}
 use Rattle.tsb_step.specs.Runs.{replay, AreTaken}
 use Rattle.tsb_step.specs.Laws.{IsConsistent, OfEveryRun}
-use Rattle.tsb_laws.specs.Stretches.{IsUntripped, NoneChooses, largest, EndsGreen, StartsGreen}
+use Rattle.tsb_laws.specs.Stretches.{IsUntripped, NoneChooses, NoneTrails, largest, EndsGreen, StartsGreen}
 
 -- ## Enabled phases
 
@@ -60,8 +60,9 @@ StartsWithin plan base c limit later =
     HasStarted plan base c limit later ⊎ ((replay plan (later ++ base)).now < (replay plan base).now + limit)
 
 -- Outside a crossing the commitment that is made as a green ends starts within that time, whatever inputs come. This
--- needs that the controller does not trip before, and that no preempt that chooses anew is in service.
+-- needs that the controller does not trip before, that no preempt that chooses anew is in service, and that no overlap
+-- trails, which holds its phases for longer.
 abbrev pub CommitmentsAreServed : Type 0
 CommitmentsAreServed = (plan : Plan) (is later : List Input) (row : Row) (p : ℕ) (r : Ring) (c : ℕ) → IsConsistent plan →
     plan.phase_count ≤ 16 → AreTaken plan (later ++ (Tick row ∷ is)) → IsUntripped plan (Tick row ∷ is) later →
-    NoneChooses plan (Tick row ∷ is) later → CommitsTo plan is row p r c → StartsWithin plan (Tick row ∷ is) c (wait plan (Tick row ∷ is) p c later) later
+    NoneChooses plan (Tick row ∷ is) later → NoneTrails plan (Tick row ∷ is) later → CommitsTo plan is row p r c → StartsWithin plan (Tick row ∷ is) c (wait plan (Tick row ∷ is) p c later) later

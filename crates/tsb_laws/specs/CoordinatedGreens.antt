@@ -25,7 +25,7 @@ use Rattle.tsb_step.specs.Tick.{service, runs, hold, callable, conflict, ready}
 use Rattle.tsb_step.specs.Signs.{IsInStep}
 use Rattle.tsb_step.specs.Runs.{replay, AreTaken}
 use Rattle.tsb_step.specs.Laws.{IsConsistent}
-use Rattle.tsb_laws.specs.Stretches.{IsUntripped}
+use Rattle.tsb_laws.specs.Stretches.{IsUntripped, has_no_trails}
 use Rattle.tsb_laws.specs.ServedCalls.{longest_initial, IsFullyConcurrent, time_by_turns}
 
 -- a test held at each of the inputs that came later, of the state that the input found
@@ -121,8 +121,10 @@ is_out c s (Clock m) = false
 is_out c s (Commit station) = false
 is_out c s i = true
 
--- j is as large as the clearance and as the red revert of each phase
+-- j is as large as the clearance and as the red revert of each phase; no overlap trails, which would hold its phases in
+-- clearance for longer
 pub record ClearsWithin (plan : Plan) (j : ℕ) : Type 0 where
+  pub untrailed : has_no_trails plan ≡ true
   pub clearance : (p : ℕ) → yellow_change plan p + red_clear plan p ≤ j
   pub revert : (p : ℕ) → red_revert plan p ≤ j
 

@@ -14,7 +14,7 @@ use Rattle.tsb_step.specs.declared.inputs.Input.TheVariants.{Tick}
 use Rattle.tsb_step.specs.State.{interval}
 use Rattle.tsb_step.specs.Runs.{replay, AreTaken}
 use Rattle.tsb_step.specs.Laws.{IsConsistent}
-use Rattle.tsb_laws.specs.Stretches.{IsUntripped, NoneChooses, largest, StartsGreen}
+use Rattle.tsb_laws.specs.Stretches.{IsUntripped, NoneChooses, NoneTrails, largest, StartsGreen}
 
 -- in the tick `row` after the inputs `is` a crossing to side d begins
 pub record BeginsCrossing (plan : Plan) (is : List Input) (row : Row) (d : ℕ) : Type 0 where
@@ -49,9 +49,9 @@ CompletesWithin plan base d limit later =
     IsCompleted plan base d limit later ⊎ ((replay plan (later ++ base)).now < (replay plan base).now + limit)
 
 -- A crossing that begins is completed within one tick and that time, whatever inputs come, unless the controller trips
--- before, or a preempt is in service that chooses anew.
+-- before. No preempt that chooses anew is in service meanwhile, and no overlap trails, which holds its phases for longer.
 abbrev pub CrossingsComplete : Type 0
 CrossingsComplete = (plan : Plan) (is later : List Input) (row : Row) (d n : ℕ) → IsConsistent plan →
     plan.phase_count ≤ 16 → AreTaken plan (later ++ (Tick row ∷ is)) → IsUntripped plan (Tick row ∷ is) later →
-    NoneChooses plan (Tick row ∷ is) later → BeginsCrossing plan is row d → TakesAtMost plan (Tick row ∷ is) n later →
+    NoneChooses plan (Tick row ∷ is) later → NoneTrails plan (Tick row ∷ is) later → BeginsCrossing plan is row d → TakesAtMost plan (Tick row ∷ is) n later →
     CompletesWithin plan (Tick row ∷ is) d (suc n) later

@@ -26,6 +26,10 @@ pub mod RunningMaximum
 pub mod GreenEnds
 -- that overlaps go with the phases that they include
 pub mod OverlapPhases
+-- when arrows flash, beside what they are green, and how overlaps with intervals of their own turn red
+pub mod Arrows
+-- that the card of a monitor permits what is lit
+pub mod Cards
 -- to what a preempt in service gives way, and when its service ends
 pub mod PreemptTurns
 -- within what time a preempt has the phases of its stage Green, reaches its dwell and leaves its exit

@@ -1,9 +1,10 @@
 -- Lit heads: those that give right of way. What may change them, and how they turn red. Each law here is the contract of
 -- a function in src/heads.rt, and proved there. Times are in tenths of a second, which are ticks.
-use Rattle.std.specs.Prelude.{◌≡◌, ℕ, ◌≤◌, true, false, List, ◌∷◌, None, ◌⊎◌}
+use Rattle.std.specs.Prelude.{◌≡◌, ℕ, ◌≤◌, Bool, true, false, List, ◌∷◌, None, ◌⊎◌}
 use Rattle.tsb_step.specs.tsb_types.declared.lamp.Aspect.{Aspect}
+use Rattle.tsb_step.specs.tsb_types.declared.lamp.Aspect.TheVariants as aspects
 use Rattle.tsb_step.specs.tsb_types.declared.lamp.Aspect.TheVariants.{Red}
-use Rattle.tsb_step.specs.tsb_plan.Parts.{is_minus_green_yellow}
+use Rattle.tsb_step.specs.tsb_plan.Parts.{is_arrow, is_minus_green_yellow}
 use Rattle.tsb_step.specs.tsb_plan.Plan.{Plan}
 use Rattle.tsb_step.specs.tsb_heads.Heads.{Heads}
 use Rattle.tsb_step.specs.tsb_heads.Monitoring.{gives_way, lets_walk}
@@ -17,12 +18,21 @@ use Rattle.tsb_step.specs.TimeLaws.{OfEveryUntrippedRun, held_for, is_tick, is_y
 
 -- ## What changes a lit head
 
--- each head with right of way, of a phase in green or yellow, of pedestrians in walk or clearance, of an overlap in
--- green or yellow, shows the same
+-- the head of an overlap lets traffic go: green, yellow or flashing yellow
+abbrev pub is_lit : Aspect → Bool
+is_lit aspects.Green = true
+is_lit aspects.Yellow = true
+is_lit aspects.FlashingYellow = true
+is_lit aspects.Dark = false
+is_lit aspects.Red = false
+is_lit aspects.FlashingRed = false
+
+-- each head with right of way shows the same: of a phase in green or yellow, of pedestrians in walk or clearance, of an
+-- overlap in green, yellow or flashing yellow
 pub record KeepsLitHeads (before after : Heads) : Type 0 where
   pub vehicle : (p : ℕ) → gives_way (before.vehicle p) ≡ true → after.vehicle p ≡ before.vehicle p
   pub pedestrian : (p : ℕ) → lets_walk (before.pedestrian p) ≡ true → after.pedestrian p ≡ before.pedestrian p
-  pub overlap : (o : ℕ) → gives_way (before.overlap o) ≡ true → after.overlap o ≡ before.overlap o
+  pub overlap : (o : ℕ) → is_lit (before.overlap o) ≡ true → after.overlap o ≡ before.overlap o
 
 -- Only a tick, a trip and the reset of a trip change a lit head: an input that is taken, is no tick and leaves the trip
 -- as it was, or none, keeps each.
@@ -45,8 +55,8 @@ LitPhasesClearInYellow = OfEveryUntrippedRun (λ plan is. (i : Input) (p : ℕ) 
     (replay plan (i ∷ is)).trip ≡ None → gives_way ((display (replay plan is)).vehicle p) ≡ true →
     StaysOrClears (λ s. (display s).vehicle p) plan is i)
 
--- And of the head of an overlap that is not of type minusGreenYellow.
+-- And of the head of an overlap that is neither of type minusGreenYellow nor an arrow. The law of arrows is in Arrows.
 abbrev pub LitOverlapsClearInYellow : Type 0
 LitOverlapsClearInYellow = OfEveryUntrippedRun (λ plan is. (i : Input) (o : ℕ) → verdict (replay plan is) i ≡ None →
     (replay plan (i ∷ is)).trip ≡ None → is_minus_green_yellow (replay plan is).plan o ≡ false →
-    gives_way ((display (replay plan is)).overlap o) ≡ true → StaysOrClears (λ s. (display s).overlap o) plan is i)
+    is_arrow (replay plan is).plan o ≡ false → gives_way ((display (replay plan is)).overlap o) ≡ true → StaysOrClears (λ s. (display s).overlap o) plan is i)

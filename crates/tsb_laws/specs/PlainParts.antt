@@ -2,21 +2,24 @@
 -- without one. An option is one of these objects, which version 1 of plan texts does not have: phaseDynamicMaxLimit,
 -- phaseDynamicMaxStep, overlapType, overlapModifierPhases, coordForceMode, coordMaximumMode, patternPermissiveTime,
 -- patternLeadLag, phasePedestrianRecycle, coordCorrectionMode, coordCorrectionLimit, overlapAcrossRings,
--- preemptChoosesAnew and coordReference. Nothing here reads one. What reads none of them is the layers' own, the rules
--- of the schedule among them. Each definition has the name of the one that it is in place of.
-use Rattle.std.specs.Prelude.{ℕ, ◌+◌, ◌-◌, ◌%◌, ◌==◌, Bool, false, not, ◌&&◌, ◌||◌, if◌then◌else◌, min, Option, Some, None, is_some, is_none}
+-- preemptChoosesAnew, coordReference, overlapArrowDelay, overlapArrowPedestrian, overlapTrailGreen, overlapTrailYellow and
+-- overlapTrailRed. Nothing here reads one. What reads none of them is the layers' own, the rules of the schedule among
+-- them. Each definition has the name of the one that it is in place of.
+use Rattle.std.specs.Prelude.{ℕ, ◌+◌, ◌-◌, ◌%◌, ◌==◌, nat_lt, Bool, false, not, ◌&&◌, ◌||◌, if◌then◌else◌, min, Option, Some, None, is_some, is_none}
 use Rattle.tsb_step.specs.tsb_cells.declared.timer.Timer.{Timer}
 use Rattle.tsb_step.specs.tsb_cells.declared.timer.Timer.TheVariants.{Off}
 use Rattle.tsb_step.specs.tsb_cells.Timer.{has_reached}
+use Rattle.std.specs.Option.{option_map, option_or}
 use Rattle.tsb_step.specs.tsb_types.declared.interval.PedestrianInterval.{PedestrianInterval}
 use Rattle.tsb_step.specs.tsb_types.declared.interval.PedestrianInterval.TheVariants.{DontWalk, Walk, PedestrianClear}
 use Rattle.tsb_step.specs.tsb_types.declared.lamp.Aspect.{Aspect}
 use Rattle.tsb_step.specs.tsb_types.declared.lamp.Aspect.TheVariants.{Dark, Red, Yellow, Green}
 use Rattle.tsb_step.specs.tsb_types.Flow.{gives_walk}
 use Rattle.tsb_step.specs.tsb_types.Intervals.{is_green, is_yellow, is_red_clear, is_dont_walk}
+use Rattle.tsb_step.specs.tsb_types.Lists.{first}
 use Rattle.tsb_step.specs.tsb_plan.declared.object.Object.TheVariants.{OverlapIncludedPhases}
 use Rattle.tsb_step.specs.tsb_plan.Parts.{cycle, offset, split_of, sequence_of, preempt_minimum_green, is_included}
-use Rattle.tsb_step.specs.tsb_plan.Plan.{Plan, maximum}
+use Rattle.tsb_step.specs.tsb_plan.Plan.{Plan, phases, maximum, is_concurrent}
 use Rattle.tsb_step.specs.tsb_plan.Running.{running}
 use Rattle.tsb_step.specs.tsb_rules.declared.rules.Rule.{Rule}
 use Rattle.tsb_step.specs.tsb_rules.declared.rules.Rule.TheVariants.{K14, K15, K16, K17, K18, K19, K20}
@@ -24,6 +27,9 @@ use Rattle.tsb_step.specs.tsb_rules.PatternRules.{some_and, each_pattern, patter
 use Rattle.tsb_step.specs.tsb_rules.Rules.{unless, or_rule, broken_by_rings, broken_by_phases, broken_by_schedule, included_phases_are_enabled, preempts_are_concurrent, preempts_dwell}
 use Rattle.tsb_step.specs.tsb_heads.Heads.{Shown, Heads, vehicle_head, pedestrian_head}
 use Rattle.tsb_step.specs.tsb_heads.Overlaps.{some_of, is_followed_in_ring, is_on_yellow}
+use Rattle.tsb_step.specs.tsb_heads.declared.monitor.Trip.{Trip}
+use Rattle.tsb_step.specs.tsb_heads.declared.monitor.Trip.TheVariants.{Conflict}
+use Rattle.tsb_step.specs.tsb_heads.Monitoring.{has_right_of_way, green_to_red}
 use Rattle.tsb_step.specs.tsb_calls.Memories as calls
 use Rattle.tsb_step.specs.tsb_calls.Memories.{Memories, vehicle_memory, pedestrian_memory, counted}
 use Rattle.tsb_step.specs.tsb_calls.Settled.{Done, vehicle_after, count_after, pedestrian_call}
@@ -53,7 +59,7 @@ broken_by_parts plan =
     None))))))
 
 -- the first rule that the plan breaks, by number; K21 to K23 are of modifier phases, of the limits of dynamic maximums
--- and of permissive times
+-- and of permissive times, K28 and K29 of arrows and of overlaps that trail
 unfoldable pub first_broken : Plan → Option Rule
 first_broken plan =
     or_rule (broken_by_rings plan)
@@ -203,3 +209,28 @@ ordered plan s = record {
   pedestrian = pedestrian_head plan s;
   overlap = overlap_head plan s;
 }
+
+-- ## The monitor, which looks at heads of phases alone
+
+-- p and a later q have right of way, and are not concurrent
+abbrev pub are_in_conflict : Plan → Heads → ℕ → ℕ → Bool
+are_in_conflict plan heads p q =
+    nat_lt p q && (has_right_of_way heads p && (has_right_of_way heads q && not (is_concurrent plan p q)))
+
+-- the least phase that p is in conflict with
+unfoldable pub conflict_of : Plan → Heads → ℕ → Option ℕ
+conflict_of plan heads p = first (are_in_conflict plan heads p) (phases plan)
+
+-- the conflict whose lower phase is p; its other phase is the least that p is in conflict with
+abbrev pub conflict_by : Plan → Heads → Option ℕ → Option Trip
+conflict_by plan heads None = None
+conflict_by plan heads (Some p) = option_map (λ q. Conflict p q) (conflict_of plan heads p)
+
+-- the least pair in conflict
+unfoldable pub conflict : Plan → Heads → Option Trip
+conflict plan heads = conflict_by plan heads (first (λ p. is_some (conflict_of plan heads p)) (phases plan))
+
+-- of the field before and after, it trips on a conflict in the field after, then on a phase whose head goes from green to
+-- red
+abbrev pub judge : Plan → Heads → Heads → Option Trip
+judge plan before after = option_or (conflict plan after) (green_to_red plan before after)

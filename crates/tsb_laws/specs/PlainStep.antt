@@ -1,10 +1,12 @@
 -- The step of a controller that has no options, and its runs. A tick is joined as in Tick of tsb_step, of the parts
 -- without options. Force-offs come at their instants alone, and the local counter is always in step. No phase walks again
--- within its green, and no maximum is dynamic. Each overlap is a normal one. No ring gives up what it is committed to.
+-- within its green, and no maximum is dynamic. Each overlap is a normal one: none is an arrow, and none trails or holds a
+-- phase. No ring gives up what it is committed to.
 --
 -- State, inputs, desk and refusals are those of the controller. What the state has of options is as it was at power-up,
--- and nothing here reads it: how the local counter comes into step, and the running maximum and the last ending of each
--- phase. Nor does anything here read `recycle` and `walks`, which phase timing and calls are given.
+-- and nothing here reads it: how the local counter comes into step, the running maximum and the last ending of each
+-- phase, and the intervals of overlaps; nor the arrows that an input omits. Nor does anything here read `recycle` and
+-- `walks`, which phase timing and calls are given.
 use Rattle.std.specs.Prelude.{ℕ, ◌+◌, Bool, false, if◌then◌else◌, List, [], ◌∷◌, Option, Some, is_some, option_map}
 use Rattle.tsb_step.specs.tsb_types.declared.lamp.Lamp.{Lamp}
 use Rattle.tsb_step.specs.tsb_types.declared.flow.Moves.{Moves}
@@ -29,14 +31,13 @@ use Rattle.tsb_step.specs.tsb_coord.Correction.{clocked}
 use Rattle.tsb_step.specs.tsb_preempt.Preempts as preempts
 use Rattle.tsb_step.specs.tsb_heads.Heads.{Heads}
 use Rattle.tsb_step.specs.tsb_heads.Displays.{flashing, laid_over}
-use Rattle.tsb_step.specs.tsb_heads.Monitoring as monitor
 use Rattle.tsb_step.specs.tsb_transact.Calls as desk
 use Rattle.tsb_step.specs.tsb_transact.Desk.{Desk, with_edits}
 use Rattle.tsb_step.specs.declared.inputs.Input.{Input}
-use Rattle.tsb_step.specs.declared.inputs.Input.TheVariants.{Tick, Pattern, Switch, Fault, Reset, Begin, Set, Verify, Commit, Abort, Clock}
+use Rattle.tsb_step.specs.declared.inputs.Input.TheVariants.{Tick, Pattern, Switch, Fault, Reset, Begin, Set, Verify, Commit, Abort, Clock, Omit}
 use Rattle.tsb_step.specs.State.{State, start, interval}
 use Rattle.tsb_step.specs.Signs.{shown}
-use Rattle.tsb_step.specs.Step.{with_switch, reset, with_desk, committed}
+use Rattle.tsb_step.specs.Step.{with_switch, with_omitted, reset, with_desk, committed}
 use Rattle.tsb_step.specs.Tick as tick
 use Rattle.tsb_laws.specs.Options.{in_step_with}
 use Rattle.tsb_laws.specs.PlainParts as plain
@@ -124,6 +125,8 @@ next s row = record {
   phases = λ p. plain.next s.plan (phases_given s row) (moved s row) p (s.phases p);
   rings = rings_next.next s.plan s.rings (rings_given s row);
   preempts = preempts.next s.plan (tick.preempts_given s row) s.preempts;
+  overlaps = s.overlaps;
+  omitted = s.omitted;
   lamp = s.lamp;
   trip = s.trip;
 }
@@ -146,7 +149,7 @@ local s = local_at s s.now
 unfoldable pub watched : State → State → State
 watched before after = record after {
   trip = option_map (λ cause. record { cause = cause; tick = after.now })
-      (monitor.judge after.plan (field before) (field after));
+      (plain.judge after.plan (field before) (field after));
 }
 
 -- ## Each input
@@ -191,6 +194,7 @@ step s (Verify station) = with_desk (desk.after_check (found s.plan s.desk) s.de
 step s (Commit station) = committed s
 step s (Abort station) = with_desk desk.after_abort s
 step s (Clock m) = with_clock m s
+step s (Omit list) = with_omitted list s
 
 -- ## Runs
 

@@ -8,9 +8,7 @@ use Rattle.tsb_step.specs.tsb_types.declared.row.Row.{Row}
 use Rattle.tsb_step.specs.tsb_types.declared.stage.Stage.{Stage}
 use Rattle.tsb_step.specs.tsb_types.declared.stage.Stage.TheVariants.{Exit}
 use Rattle.tsb_step.specs.tsb_types.Intervals.{is_green, is_yellow}
-use Rattle.tsb_step.specs.tsb_plan.Parts.{is_anew, is_minus_green_yellow, track_green}
-use Rattle.tsb_step.specs.tsb_plan.Plan.{Plan, red_revert}
-use Rattle.tsb_step.specs.tsb_plan.Parts.{is_minus_green_yellow}
+use Rattle.tsb_step.specs.tsb_plan.Parts.{is_anew, is_arrow, is_minus_green_yellow, track_green}
 use Rattle.tsb_step.specs.tsb_plan.Plan.{Plan, is_enabled, side_of, walk, pedestrian_clear, red_revert}
 use Rattle.tsb_step.specs.tsb_plan.Running.{pattern_maximum}
 use Rattle.tsb_step.specs.tsb_heads.Monitoring.{conflict, gives_way}
@@ -20,6 +18,7 @@ use Rattle.tsb_step.specs.tsb_rules.Consistent.{IsPhase}
 use Rattle.tsb_step.specs.tsb_ring.Rings.{Ring, other, in_ring}
 use Rattle.tsb_step.specs.declared.inputs.Input.{Input}
 use Rattle.tsb_step.specs.declared.inputs.Input.TheVariants.{Tick, Pattern}
+use Rattle.tsb_step.specs.Backed.{AreBacked}
 use Rattle.tsb_step.specs.ClearanceLaws.{EndsNow, ClearsInTime, IsForcedOff, IsOverInTime, split_end_from}
 use Rattle.tsb_step.specs.tsb_coord.Laws.{IsCountedFrom}
 use Rattle.tsb_step.specs.Laws.{IsConsistent, ServesTogether, WalksBesideGreen, StartsWaiting, ServesPreempt, is_unlit}
@@ -31,6 +30,8 @@ use Rattle.tsb_step.specs.Tick.{service, must_end, runs, hold, forced, at_force_
 use Rattle.tsb_step.specs.TimeLaws.{held_for, is_tick, is_yellow_head, EndsInTime, HasHeld, IsSided, Rests, TellsTime, StandsOrStarts, ShowsTheSame}
 use Rattle.tsb_step.specs.WaitLaws.{IsKeptNext}
 use Rattle.tsb_laws.specs.AllRed.{HasBeenRed, HasBeenWanted}
+use Rattle.tsb_laws.specs.Arrows.{ClearsTimedOverlaps, FlashesByPermission, LeavesIdleUnlit, ProtectsGreenArrows, ShowsArrowsWithPhases}
+use Rattle.tsb_laws.specs.Cards.{PermitsWhatIsLit}
 use Rattle.tsb_laws.specs.Commitments.{ServesEnabled, CommitsTo, wait, StartsWithin}
 use Rattle.tsb_laws.specs.Coordination.{in_permissive_time, was_forced_off, OmitsHold}
 use Rattle.tsb_laws.specs.CrossingGreens.{IsCalm}
@@ -53,7 +54,7 @@ use Rattle.tsb_laws.specs.PreemptTurns.{GivesWay, EndsFrom}
 use Rattle.tsb_laws.specs.RecycledWalks.{WalksAgain, RecyclesCalls, is_unheld, is_unforced, IsOverByForceOff}
 use Rattle.tsb_laws.specs.RedReverts.{StartsAgain, HasReverted}
 use Rattle.tsb_laws.specs.RunningMaximum.{maximum_of, IsBounded, MovesByAStep}
-use Rattle.tsb_laws.specs.Stretches.{IsUntripped, has_held_since, NoneChooses, largest, EndsGreen}
+use Rattle.tsb_laws.specs.Stretches.{IsUntripped, has_held_since, NoneChooses, NoneTrails, largest, EndsGreen}
 use Rattle.tsb_laws.specs.ServedCalls.{HasBeenPressed, IsDoneWithin, IsFullyConcurrent, HasWaited, TurnsTakeAtMost, IsToCome, time_to_come, is_outside, time_to_cross, time_to_serve, longest_initial}
 use Rattle.tsb_laws.specs.UnwantedGreens.{WaitsFor}
 use Rattle.tsb_laws.specs.WantedStarts.{MayStart, IsKeptBy}
@@ -103,7 +104,7 @@ RemembersCalls s = s.trip ≡ None → (row : Row) (p : ℕ) → Remembers s row
 
 -- the head of an overlap is green or yellow only beside a phase in service that it includes
 abbrev pub ShowsOverlapsWithPhases : State → Type 0
-ShowsOverlapsWithPhases s = (o : ℕ) → gives_way ((display s).overlap o) ≡ true → GoesWithPhases s o
+ShowsOverlapsWithPhases s = (o : ℕ) → is_arrow s.plan o ≡ false → gives_way ((display s).overlap o) ≡ true → GoesWithPhases s o
 
 -- the next input, if it is no tick, leaves the plan and resets no trip, leaves the maximum in use
 abbrev pub LeavesMaximums : State → Type 0
@@ -136,11 +137,11 @@ abbrev pub ClearsLitPhases : Plan → List Input → Type 0
 ClearsLitPhases plan is = (i : Input) (p : ℕ) → verdict (replay plan is) i ≡ None → (replay plan (i ∷ is)).trip ≡ None →
     gives_way ((display (replay plan is)).vehicle p) ≡ true → StaysOrClears (λ s. (display s).vehicle p) plan is i
 
--- so does that of an overlap that is not of type minusGreenYellow
+-- so does that of an overlap that is neither of type minusGreenYellow nor an arrow
 abbrev pub ClearsLitOverlaps : Plan → List Input → Type 0
 ClearsLitOverlaps plan is = (i : Input) (o : ℕ) → verdict (replay plan is) i ≡ None → (replay plan (i ∷ is)).trip ≡ None →
-    is_minus_green_yellow (replay plan is).plan o ≡ false → gives_way ((display (replay plan is)).overlap o) ≡ true →
-    StaysOrClears (λ s. (display s).overlap o) plan is i
+    is_minus_green_yellow (replay plan is).plan o ≡ false → is_arrow (replay plan is).plan o ≡ false →
+    gives_way ((display (replay plan is)).overlap o) ≡ true → StaysOrClears (λ s. (display s).overlap o) plan is i
 
 -- a phase that the next tick starts has waited for its red revert, unless its red revert timer is Off
 abbrev pub RevertsOrOff : Plan → List Input → Type 0
@@ -201,13 +202,13 @@ KeepsRedReverts plan is = (base later : List Input) (row : Row) (p : ℕ) → is
 -- a commitment that was made as a green ended is served in time
 abbrev pub ServesCommitments : Plan → List Input → Type 0
 ServesCommitments plan is = (older later : List Input) (row : Row) (p : ℕ) (r : Ring) (c : ℕ) → is ≡ later ++ (Tick row ∷ older) →
-    IsUntripped plan (Tick row ∷ older) later → NoneChooses plan (Tick row ∷ older) later → CommitsTo plan older row p r c →
+    IsUntripped plan (Tick row ∷ older) later → NoneChooses plan (Tick row ∷ older) later → NoneTrails plan (Tick row ∷ older) later → CommitsTo plan older row p r c →
     StartsWithin plan (Tick row ∷ older) c (wait plan (Tick row ∷ older) p c later) later
 
 -- a crossing that began is completed in time
 abbrev pub CompletesCrossings : Plan → List Input → Type 0
 CompletesCrossings plan is = (older later : List Input) (row : Row) (d n : ℕ) → is ≡ later ++ (Tick row ∷ older) →
-    IsUntripped plan (Tick row ∷ older) later → NoneChooses plan (Tick row ∷ older) later → BeginsCrossing plan older row d →
+    IsUntripped plan (Tick row ∷ older) later → NoneChooses plan (Tick row ∷ older) later → NoneTrails plan (Tick row ∷ older) later → BeginsCrossing plan older row d →
     TakesAtMost plan (Tick row ∷ older) n later →
     CompletesWithin plan (Tick row ∷ older) d (suc n) later
 
@@ -420,6 +421,8 @@ pub record KeepsLaws (plan : Plan) (is : List Input) (s : State) : Type 0 where
   pub ended_have_held : Untripped EndsWhatHasHeld plan is
   -- tsb_step, wait_laws
   pub waits_keep_phases : IsKeptNext s
+  -- tsb_step, overlap_laws
+  pub overlaps_are_backed : AreBacked s
   -- safety
   pub intergreens_hold : HasIntergreens plan is
   pub intergreens_hold_walks : ClearsWalks plan is
@@ -434,6 +437,13 @@ pub record KeepsLaws (plan : Plan) (is : List Input) (s : State) : Type 0 where
   pub lit_heads_stay : KeepsHeads s
   pub lit_heads_clear_in_yellow : Untripped ClearsLitPhases plan is
   pub lit_heads_clear_in_yellow_overlaps : Untripped ClearsLitOverlaps plan is
+  -- arrows
+  pub arrows_flash_by_permissions : FlashesByPermission s
+  pub green_arrows_are_protected : ProtectsGreenArrows s
+  pub arrows_go_with_phases : ShowsArrowsWithPhases s
+  pub timed_overlaps_clear_in_yellow : Untripped ClearsTimedOverlaps plan is
+  pub idle_overlaps_are_unlit : LeavesIdleUnlit s
+  pub cards_permit_what_is_lit : PermitsWhatIsLit s
   -- operation
   pub calls_are_kept_remembered : RemembersCalls s
   pub calls_are_kept_vehicles : KeepsVehicleCalls plan is

@@ -3,7 +3,7 @@
 -- vehicle: least green, yellow change, red clearance. The other is of a conflicting pedestrian: walk, pedestrian clearance,
 -- yellow change, red clearance. Each law here is the contract of a function in src/operation.rt. Times are in tenths of a
 -- second, which are ticks.
-use Rattle.std.specs.Prelude.{◌≡◌, ℕ, ◌+◌, ◌<◌, ◌≤◌, Bool, true, false, not, ◌&&◌, max, List, ◌∷◌, ◌++◌, Some, ◌⊎◌}
+use Rattle.std.specs.Prelude.{◌≡◌, ℕ, ◌+◌, ◌<◌, ◌≤◌, Bool, true, false, not, ◌&&◌, max, List, ◌∷◌, ◌++◌, ◌⊎◌}
 use Rattle.tsb_step.specs.tsb_types.declared.row.Row.{Row}
 use Rattle.tsb_step.specs.tsb_types.declared.stage.Stage.{Stage}
 use Rattle.tsb_step.specs.tsb_plan.Parts.{track_green}

@@ -15,7 +15,7 @@ use Rattle.tsb_step.specs.declared.inputs.Input.TheVariants.{Tick}
 use Rattle.tsb_step.specs.State.{State, interval}
 use Rattle.tsb_step.specs.Runs.{replay, AreTaken}
 use Rattle.tsb_step.specs.Laws.{IsConsistent}
-use Rattle.tsb_laws.specs.Stretches.{IsUntripped, has_held_since, largest}
+use Rattle.tsb_laws.specs.Stretches.{IsUntripped, has_held_since, largest, NoneTrails}
 use Rattle.tsb_laws.specs.PreemptDwells.{BeginsService, is_served, has_arrived}
 use Rattle.tsb_laws.specs.PreemptTurns.{place}
 
@@ -32,8 +32,10 @@ serves_stage n stage s = all_green s.plan (interval s) (stage_phases s.plan n st
 
 -- g is as large as the minimum green of preempt n; w as its walk and its pedestrian clearance together, of each phase; c as
 -- the yellow change and the red clearance of each phase together, and as the red revert of each. Each time is the largest by
--- the plans in effect meanwhile, where a commit changes it
+-- the plans in effect meanwhile, where a commit changes it. In none of these does an overlap trail, which would hold its
+-- phases in clearance for longer
 pub record StageTakesAtMost (plan : Plan) (base : List Input) (n g w c : ℕ) (later : List Input) : Type 0 where
+  pub untrailed : NoneTrails plan base later
   pub green : largest (λ x. preempt_minimum_green x n) plan base later ≤ g
   pub walk : (p : ℕ) → largest (λ x. walk_time x p (Some n)) plan base later + largest (λ x. clearance_time x p (Some n)) plan base later ≤ w
   pub clearance : (p : ℕ) → largest (λ x. yellow_change x p) plan base later + largest (λ x. red_clear x p) plan base later ≤ c

@@ -10,7 +10,7 @@ use Rattle.tsb_step.specs.declared.inputs.Input.TheVariants.{Tick}
 use Rattle.tsb_step.specs.Runs.{replay, AreTaken}
 use Rattle.tsb_step.specs.Laws.{IsConsistent}
 use Rattle.tsb_review.specs.Worksheet.{longest_entry}
-use Rattle.tsb_laws.specs.Stretches.{IsUntripped, has_held_since}
+use Rattle.tsb_laws.specs.Stretches.{IsUntripped, has_held_since, has_no_trails}
 use Rattle.tsb_laws.specs.PreemptDwells.{BeginsService}
 use Rattle.tsb_laws.specs.PreemptStages.{is_in_stage, ReachesWithin}
 
@@ -25,9 +25,17 @@ first_stage x n = (begun x n).stage
 
 -- A preempt that stays in the stage in which its service began has all phases of it Green within its longest entry. That
 -- is the one in the worksheet of the plan in effect. It holds whatever inputs come, while this plan stays, unless the
--- controller trips before.
+-- controller trips before, where no overlap of it trails.
 abbrev pub PrintedEntriesHold : Type 0
-PrintedEntriesHold = (plan x : Plan) (is later : List Input) (row : Row) (n : ℕ) → IsConsistent plan → plan.phase_count ≤ 16 →
+PrintedEntriesHold = (plan x : Plan) (is later : List Input) (row : Row) (n : ℕ) → IsConsistent plan → plan.phase_count ≤ 16 → has_no_trails x ≡ true →
+    AreTaken plan (later ++ (Tick row ∷ is)) → IsUntripped plan (Tick row ∷ is) later → HasStayed x plan (Tick row ∷ is) later →
+    BeginsService plan is row n → has_held_since (λ s. is_in_stage n (first_stage x n) s.preempts.service) plan (Tick row ∷ is) later ≡ true →
+    ReachesWithin plan (Tick row ∷ is) n (first_stage x n) (longest_entry x n) later
+
+-- NOT PROVED: the same where overlaps trail. A preempt in service ends their trailing greens at once, and the worksheet counts
+-- their own yellow and red clearance as a clearance of the phases that they include.
+abbrev pub EntriesWithTrailsHold : Type 0
+EntriesWithTrailsHold = (plan x : Plan) (is later : List Input) (row : Row) (n : ℕ) → IsConsistent plan → plan.phase_count ≤ 16 →
     AreTaken plan (later ++ (Tick row ∷ is)) → IsUntripped plan (Tick row ∷ is) later → HasStayed x plan (Tick row ∷ is) later →
     BeginsService plan is row n → has_held_since (λ s. is_in_stage n (first_stage x n) s.preempts.service) plan (Tick row ∷ is) later ≡ true →
     ReachesWithin plan (Tick row ∷ is) n (first_stage x n) (longest_entry x n) later

@@ -18,7 +18,7 @@ use Rattle.tsb_step.specs.State.{State, interval}
 use Rattle.tsb_step.specs.Tick.{service, runs, callable, conflict, ready}
 use Rattle.tsb_step.specs.Runs.{replay, AreTaken}
 use Rattle.tsb_step.specs.Laws.{IsConsistent}
-use Rattle.tsb_laws.specs.Stretches.{IsUntripped, has_held_since, largest}
+use Rattle.tsb_laws.specs.Stretches.{IsUntripped, has_held_since, has_no_trails, largest}
 
 -- no preempt is in service in the tick, and no pattern runs: the rings go on by calls alone
 abbrev pub is_free : State → Row → Bool
@@ -80,8 +80,10 @@ HasWaited plan q is (i ∷ later) = HasWaited plan q is later × (is_waiting q (
 unfoldable pub longest_green : Plan → ℕ → ℕ
 longest_green plan p = max (longest_maximum plan p) (max (longest_initial plan p) (walk plan p + pedestrian_clear plan p))
 
--- k is as large as the clearance and as the red revert of each phase, and h as the longest green of each
+-- k is as large as the clearance and as the red revert of each phase, and h as the longest green of each; no overlap trails,
+-- which would hold its phases in clearance for longer
 pub record TurnsTakeAtMost (plan : Plan) (k h : ℕ) : Type 0 where
+  pub untrailed : has_no_trails plan ≡ true
   pub clearance : (p : ℕ) → yellow_change plan p + red_clear plan p ≤ k
   pub revert : (p : ℕ) → red_revert plan p ≤ k
   pub green : (p : ℕ) → longest_green plan p ≤ h

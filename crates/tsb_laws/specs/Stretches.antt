@@ -3,6 +3,9 @@
 use Rattle.std.specs.Prelude.{◌≡◌, ◌≢◌, ℕ, Bool, true, not, ◌&&◌, if◌then◌else◌, List, [], ◌∷◌, ◌++◌, None, max}
 use Rattle.tsb_step.specs.tsb_types.declared.interval.Interval.TheVariants.{Green}
 use Rattle.tsb_step.specs.tsb_types.declared.row.Row.{Row}
+use Rattle.std.specs.List.{list_any}
+use Rattle.tsb_step.specs.tsb_types.Lists.{run_from}
+use Rattle.tsb_step.specs.tsb_plan.Parts.{trails}
 use Rattle.tsb_step.specs.tsb_plan.Plan.{Plan}
 use Rattle.tsb_step.specs.declared.inputs.Input.{Input}
 use Rattle.tsb_step.specs.declared.inputs.Input.TheVariants.{Tick}
@@ -23,6 +26,14 @@ has_held_since test plan is (i ∷ later) = test (replay plan (i ∷ (later ++ i
 -- no preempt that chooses anew is in service after the inputs `is`, nor after any of those that came later
 abbrev pub NoneChooses : Plan → List Input → List Input → Type 0
 NoneChooses plan is later = has_held_since (λ s. not (is_choosing s)) plan is later ≡ true
+
+-- no overlap of the plan trails: so none holds a phase in clearance
+abbrev pub has_no_trails : Plan → Bool
+has_no_trails plan = not (list_any (trails plan) (run_from 1 plan.counts.overlaps))
+
+-- the same of the plan in effect after the inputs `is`, and after each of those that came later
+abbrev pub NoneTrails : Plan → List Input → List Input → Type 0
+NoneTrails plan is later = has_held_since (λ s. has_no_trails s.plan) plan is later ≡ true
 
 -- the time that is due of what has held since the inputs `is`: as it is for the input in which it first ends, by the
 -- state that this input finds; for the newest input where it has not ended before

@@ -4,7 +4,7 @@ use Rattle.std.specs.Prelude.{ℕ, ◌+◌, ◌*◌, ◌≤◌, Option, Some, No
 use Rattle.tsb_step.specs.tsb_cells.declared.timer.Timer.{Timer}
 use Rattle.tsb_step.specs.tsb_cells.declared.timer.Timer.TheVariants.{Off}
 use Rattle.tsb_step.specs.tsb_cells.Timer.{advanced}
-use Rattle.tsb_step.specs.tsb_types.declared.limits.TheConstants.{PREEMPTS, VEHICLE_DETECTORS}
+use Rattle.tsb_step.specs.tsb_types.declared.limits.TheConstants.{OVERLAPS, PREEMPTS, VEHICLE_DETECTORS}
 use Rattle.tsb_step.specs.tsb_preempt.Service.{Service}
 use Rattle.tsb_step.specs.declared.first_cell.TheConstants as first_cell
 use Rattle.tsb_step.specs.State.{State}
@@ -25,12 +25,15 @@ pub data Place : Type 0 where
   Delay : ℕ → Place
   Served : Place
   Track : Place
+  -- of an overlap that has intervals of its own
+  Overlap : ℕ → Place
 
 -- its number is one of those that there are
 abbrev pub IsPlace : Place → Type 0
 IsPlace (Delay n) = (1 ≤ n) × (n ≤ PREEMPTS)
 IsPlace Served = Unit {0}
 IsPlace Track = Unit {0}
+IsPlace (Overlap o) = (1 ≤ o) × (o ≤ OVERLAPS)
 IsPlace (Change d) = (1 ≤ d) × (d ≤ VEHICLE_DETECTORS)
 IsPlace (Extend d) = (1 ≤ d) × (d ≤ VEHICLE_DETECTORS)
 IsPlace (Interval p) = (1 ≤ p) × (p ≤ 16)
@@ -63,6 +66,7 @@ timer_of (RedRevert p) s = (s.phases p).red_revert
 timer_of (Delay n) s = s.preempts.delay n
 timer_of Served s = served s.preempts.service
 timer_of Track s = tracked s.preempts.service
+timer_of (Overlap o) s = (s.overlaps o).timer
 
 -- the number of its cell among all of the controller
 abbrev pub cell_of : Place → ℕ
@@ -77,6 +81,7 @@ cell_of (RedRevert p) = first_cell.PHASES + (83 + p)
 cell_of (Delay n) = first_cell.PREEMPTS + (1 + n)
 cell_of Served = first_cell.PREEMPTS + (4 + PREEMPTS)
 cell_of Track = first_cell.PREEMPTS + (5 + PREEMPTS)
+cell_of (Overlap o) = first_cell.OVERLAPS + (5 + o)
 
 -- a timer after a tick in which it stayed Off or ran on; in a controller that has tripped timers rest
 abbrev pub waits : State → Timer → Timer

@@ -47,11 +47,12 @@ LinesAreReadInRuns = (is_wide : Bool) (plan : Plan) (is : List Input) → IsCons
 
 -- the line shows what the event is about: overlaps 1 to 4, and a wide line all
 abbrev pub is_on_line : Bool → Event → Bool
-is_on_line is_wide e = is_wide || (not (among e.code (61 ∷ 63 ∷ 64 ∷ [])) || nat_le e.parameter 4)
+is_on_line is_wide e = is_wide || (not (among e.code (32 ∷ 33 ∷ 61 ∷ 63 ∷ 64 ∷ [])) || nat_le e.parameter 4)
 
 -- lines have events of this code, and it is of what the line shows
 abbrev pub is_of_line : Bool → Event → Bool
-is_of_line is_wide e = among e.code (1 ∷ 7 ∷ 8 ∷ 9 ∷ 21 ∷ 22 ∷ 23 ∷ 61 ∷ 63 ∷ 64 ∷ 105 ∷ 173 ∷ []) && is_on_line is_wide e
+is_of_line is_wide e =
+    among e.code (1 ∷ 7 ∷ 8 ∷ 9 ∷ 21 ∷ 22 ∷ 23 ∷ 32 ∷ 33 ∷ 61 ∷ 63 ∷ 64 ∷ 105 ∷ 173 ∷ []) && is_on_line is_wide e
 
 -- the events that come of the lines before and after an input are those of lines among its events
 abbrev pub LinesTellTheSame : Type 0
@@ -62,8 +63,8 @@ LinesTellTheSame = (is_wide : Bool) (plan : Plan) (is : List Input) (i : Input) 
 
 -- ## Heads
 
--- these are the heads that the display shows green, yellow, in walk and in clearance, and whether the controller is in
--- flash
+-- these are the heads that the display shows green, yellow, flashing yellow, in walk and in clearance, and whether the
+-- controller is in flash
 pub record TellsHeads (lit : Lit) (s : State) : Type 0 where
   pub green : (p : ℕ) → 1 ≤ p → p ≤ 16 → lit.green p ≡ monitor.is_green ((display s).vehicle p)
   pub yellow : (p : ℕ) → 1 ≤ p → p ≤ 16 → lit.yellow p ≡ colours.is_yellow ((display s).vehicle p)
@@ -71,6 +72,7 @@ pub record TellsHeads (lit : Lit) (s : State) : Type 0 where
   pub clearance : (p : ℕ) → 1 ≤ p → p ≤ 16 → lit.clearance p ≡ colours.shows_clearance ((display s).pedestrian p)
   pub overlap_green : (o : ℕ) → 1 ≤ o → o ≤ OVERLAPS → lit.overlap_green o ≡ monitor.is_green ((display s).overlap o)
   pub overlap_yellow : (o : ℕ) → 1 ≤ o → o ≤ OVERLAPS → lit.overlap_yellow o ≡ colours.is_yellow ((display s).overlap o)
+  pub overlap_arrow : (o : ℕ) → 1 ≤ o → o ≤ OVERLAPS → lit.overlap_arrow o ≡ colours.is_flashing_yellow ((display s).overlap o)
   pub flash : lit.flash ≡ is_some s.trip
 
 -- the events of a run say what the heads show at its end, whatever the form of the log is

@@ -66,6 +66,7 @@ IsLampWithin None = Unit {0}
 IsLampWithin (Some (lamps.Phase p color)) = p ≤ 8
 IsLampWithin (Some (lamps.Pedestrian p color)) = p ≤ 8
 IsLampWithin (Some (lamps.Overlap o color)) = Unit {0}
+IsLampWithin (Some (lamps.Arrow o)) = Unit {0}
 
 -- the inputs within version 1's ranges
 abbrev pub IsWithin : Input → Type 0

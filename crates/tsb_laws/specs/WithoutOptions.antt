@@ -2,7 +2,7 @@
 -- options, which PlainStep has. The laws here are the contract of a function in src/options.rt, and proved there.
 use Rattle.std.specs.Prelude.{◌≡◌, ℕ, Bool, true, false, not, ◌&&◌, ◌||◌, List, [], ◌∷◌}
 use Rattle.tsb_step.specs.tsb_plan.declared.object.Object.{Object}
-use Rattle.tsb_step.specs.tsb_plan.declared.object.Object.TheVariants.{PhaseDynamicMaxLimit, PhaseDynamicMaxStep, OverlapType, OverlapModifierPhases, CoordForceMode, CoordMaximumMode, PatternPermissiveTime, PatternLeadLag, PhasePedestrianRecycle, CoordCorrectionMode, CoordCorrectionLimit, OverlapAcrossRings, PreemptChoosesAnew, CoordReference, TimeBaseScheduleMonth, TimeBaseScheduleDay, TimeBaseScheduleDate, TimeBaseScheduleDayPlan, DayPlanHour, DayPlanMinute, DayPlanActionNumber, TimebaseAscPattern}
+use Rattle.tsb_step.specs.tsb_plan.declared.object.Object.TheVariants.{PhaseDynamicMaxLimit, PhaseDynamicMaxStep, OverlapType, OverlapModifierPhases, CoordForceMode, CoordMaximumMode, PatternPermissiveTime, PatternLeadLag, PhasePedestrianRecycle, CoordCorrectionMode, CoordCorrectionLimit, OverlapAcrossRings, PreemptChoosesAnew, CoordReference, TimeBaseScheduleMonth, TimeBaseScheduleDay, TimeBaseScheduleDate, TimeBaseScheduleDayPlan, DayPlanHour, DayPlanMinute, DayPlanActionNumber, TimebaseAscPattern, OverlapArrowDelay, OverlapArrowPedestrian, OverlapTrailGreen, OverlapTrailYellow, OverlapTrailRed, ActionArrowOmit, ChannelControlSource, ChannelControlType}
 use Rattle.tsb_step.specs.tsb_plan.declared.version.Version.{Version}
 use Rattle.tsb_step.specs.tsb_plan.declared.version.Version.TheVariants.{One, Two, Three}
 use Rattle.tsb_step.specs.tsb_plan.Objects.{is_structural, since}
@@ -32,16 +32,23 @@ is_option CoordCorrectionMode = true
 is_option OverlapAcrossRings = true
 is_option PreemptChoosesAnew = true
 is_option CoordReference = true
+is_option OverlapTrailGreen = true
+is_option OverlapTrailYellow = true
 is_option o = false
 
--- with the two that are read by one of these alone, and so need not be 0: the step by the limit of the dynamic maximum,
--- and the correction limit by the correction mode
+-- with those that are read by one of these alone, and so need not be 0: the step by the limit of the dynamic maximum, the
+-- correction limit by the correction mode; what arrows have by the type of overlaps, and the trailing red clearance by
+-- the trailing green
 abbrev pub is_of_options : Object → Bool
 is_of_options PhaseDynamicMaxStep = true
 is_of_options CoordCorrectionLimit = true
+is_of_options OverlapArrowDelay = true
+is_of_options OverlapArrowPedestrian = true
+is_of_options OverlapTrailRed = true
 is_of_options o = is_option o
 
--- the objects of the schedule: the controller reads them in the rules K24 to K27 alone, with or without options
+-- the objects of the schedule: the controller reads them in the rules K24 to K27 alone, with or without options, and the
+-- arrows that an action omits in none
 abbrev pub is_of_schedule : Object → Bool
 is_of_schedule TimeBaseScheduleMonth = true
 is_of_schedule TimeBaseScheduleDay = true
@@ -51,7 +58,14 @@ is_of_schedule DayPlanHour = true
 is_of_schedule DayPlanMinute = true
 is_of_schedule DayPlanActionNumber = true
 is_of_schedule TimebaseAscPattern = true
+is_of_schedule ActionArrowOmit = true
 is_of_schedule o = false
+
+-- the channels of a conflict monitor: the controller reads them nowhere
+abbrev pub is_of_card : Object → Bool
+is_of_card ChannelControlSource = true
+is_of_card ChannelControlType = true
+is_of_card o = false
 
 -- version 1 of plan texts has it
 abbrev pub is_of_version_1 : Version → Bool
@@ -59,9 +73,10 @@ is_of_version_1 One = true
 is_of_version_1 Two = false
 is_of_version_1 Three = false
 
--- With those of the schedule, those are the objects that version 1 of plan texts does not have, and no others.
+-- With those of the schedule and of the card, those are the objects that version 1 of plan texts does not have, and no
+-- others.
 abbrev pub OptionsAreAllThatVersion1Lacks : Type 0
-OptionsAreAllThatVersion1Lacks = (o : Object) → (is_of_options o || is_of_schedule o) ≡ not (is_of_version_1 (since o))
+OptionsAreAllThatVersion1Lacks = (o : Object) → (is_of_options o || (is_of_schedule o || is_of_card o)) ≡ not (is_of_version_1 (since o))
 
 -- each option is 0 in the plan
 pub record HasEachAtZero (plan : Plan) : Type 0 where
@@ -69,6 +84,8 @@ pub record HasEachAtZero (plan : Plan) : Type 0 where
   pub phase_dynamic_max_limit : (p : ℕ) → plan.value PhaseDynamicMaxLimit p ≡ 0
   pub overlap_type : (o : ℕ) → plan.value OverlapType o ≡ 0
   pub overlap_modifier_phases : (o : ℕ) → plan.value OverlapModifierPhases o ≡ 0
+  pub overlap_trail_green : (o : ℕ) → plan.value OverlapTrailGreen o ≡ 0
+  pub overlap_trail_yellow : (o : ℕ) → plan.value OverlapTrailYellow o ≡ 0
 
 -- the input sets no option to another value than 0
 abbrev pub SetsNoOption : Input → Type 0
@@ -102,7 +119,7 @@ ShowWhatIsShownWithoutOptions = (plan : Plan) (is : List Input) → HasEachAtZer
 
 -- ## That the controller without options reads none
 
--- the input sets none of the three options of overlaps. They are of the structure: a commit that changes one makes the
+-- the input sets none of the four options of overlaps. They are of the structure: a commit that changes one makes the
 -- rings forget what they started last
 abbrev pub SetsNoOverlapOption : Input → Type 0
 SetsNoOverlapOption (Set station id v) = (is_of_options id.object && is_structural id.object) ≡ false
@@ -132,7 +149,7 @@ ShowsNoOption = (x y : Plan) (is : List Input) → DifferIn is_of_options x y �
 
 -- ## What an option alone reads
 
--- So two plans whose options are 0 give the same run of the controller itself, whatever they have of the two objects
+-- So two plans whose options are 0 give the same run of the controller itself, whatever they have of the five objects
 -- that an option alone reads. These may be set.
 abbrev pub OptionsAloneRead : Type 0
 OptionsAloneRead = (x y : Plan) (is : List Input) → HasEachAtZero x → HasEachAtZero y → DifferIn is_of_options x y →

@@ -24,7 +24,7 @@ pub fn lines_tell_what_inputs_tell()
 {}
 
 /// The events of a run tell its heads back. They say which heads are green, yellow, in walk and in clearance at its end,
-/// and whether the controller is in flash. The last event that says something of a head decides.
+/// which arrows flash, and whether the controller is in flash. The last event that says something of a head decides.
 ///
 /// Needs: as `lines_tell_what_inputs_tell`.
 /// Not said: red as against dark, for which the enumerations have no event; a lamp that a fault lights, as the display

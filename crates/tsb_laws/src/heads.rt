@@ -29,7 +29,8 @@ pub fn tripped_heads_flash()
 {}
 
 /// Only ticks, trips and the reset of a trip change a lit head. Any other input that is taken leaves each head with
-/// right of way: of a phase in green or yellow, of pedestrians in walk or clearance, of an overlap in green or yellow.
+/// right of way: of a phase in green or yellow, of pedestrians in walk or clearance, of an overlap in green, yellow or
+/// flashing yellow.
 ///
 /// Not said: anything of heads that are red or dark, which a commit may turn dark or red.
 /// Mistake: a commit of overlaps that does not wait, `unlisting` (`shows_green`, `has_to_wait`, `would_go_dark`).
@@ -48,7 +49,8 @@ pub fn lit_heads_stay()
 /// `overlaps`: So does the head of a normal overlap.
 ///
 /// Needs: as of phases.
-/// Not said: anything of overlaps of type minusGreenYellow, whose yellows may be shorter.
+/// Not said: anything of overlaps of type minusGreenYellow, whose yellows may be shorter, or of arrows, which
+/// `timed_overlaps_clear_in_yellow` has.
 /// Mistake: a commit of overlaps that does not wait, `relisting` (`waits_too`, `would_turn_red`).
 /// Witness: `a_lit_overlap` of RedRevertRuns, whose tick turns a head red.
 pub fn lit_heads_clear_in_yellow()

@@ -13,6 +13,7 @@
 //! controller without options.
 #![tactic(auto)]
 
+pub mod arrows;
 pub mod desk;
 pub mod events;
 pub mod heads;

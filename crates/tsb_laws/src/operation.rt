@@ -6,7 +6,7 @@ ghost use Rattle.tsb_laws.specs.GreenEnds.{GreensEndForAReason};
 ghost use Rattle.tsb_laws.specs.InStep.{ComeIntoStep, OnceInStep, SelectedInStep, SelectionsGoOn};
 ghost use Rattle.tsb_laws.specs.LateGreens.{LateGreensAreReady, LateGreensMayEnd};
 ghost use Rattle.tsb_laws.specs.Options.{OptionsOffChangeNothing};
-ghost use Rattle.tsb_laws.specs.OverlapPhases.{OverlapsEndWithAGreen, OverlapsGoWithPhases, OverlapsLastAcrossRings};
+ghost use Rattle.tsb_laws.specs.OverlapPhases.{OverlapsEndWithAGreen, OverlapsGoWithPhases, OverlapsLastAcrossRings, TrailsBeginWithAGreen};
 ghost use Rattle.tsb_laws.specs.PatternEnds.{FloatingGreensAreReady, FloatingGreensMayEnd, MaximumGreensAreReady, MaximumGreensMayEnd, PermittedGreensAreReady, PermittedGreensMayEnd};
 ghost use Rattle.tsb_laws.specs.PreemptEntries.{PreemptsLetInTheirOwn};
 ghost use Rattle.tsb_laws.specs.PreemptChoices.{ChosenDwellsAreReached, ChosenStagesAreReached};
@@ -69,11 +69,11 @@ pub fn greens_end_for_a_reason()
     ensures { GreensEndForAReason }
 {}
 
-/// An overlap goes with its phases. Where its head is green or yellow, a phase that it includes is in service. So each
-/// phase in service, and each with right of way, is that phase or concurrent with it.
+/// An overlap goes with its phases. Where its head is green or yellow, and it is no arrow, a phase that it includes is
+/// in service. So each phase in service, and each with right of way, is that phase or concurrent with it.
 ///
-/// Not said: that it is concurrent with the other phases that the overlap includes. Nothing of a lamp that a fault
-/// lights.
+/// Not said: anything of arrows, which `arrows_go_with_phases` has; that it is concurrent with the other phases that the
+/// overlap includes. Nothing of a lamp that a fault lights.
 /// Mistake: an overlap that is green as soon as a ring is committed to one of them, `green_by_commitment` (`serves_3`,
 /// `are_apart`, `shows_red`, `would_show_green`).
 /// Witness: `an_overlap` of OverlapRuns.
@@ -84,7 +84,8 @@ pub fn overlaps_go_with_phases()
 /// `ends`: An overlap leaves green with a green. A tick that turns the head of a normal overlap from green to yellow
 /// ends the green of a phase that it includes. So it is with `overlapAcrossRings` and without it.
 ///
-/// Not said: anything of overlaps of type minusGreenYellow, from which a modifier phase takes the green.
+/// Not said: anything of overlaps of type minusGreenYellow, from which a modifier phase takes the green, of arrows, or
+/// of overlaps that trail.
 /// Mistake: an overlap across rings that counts the other ring's commitment alone, `keeps_by_the_other_ring` of
 /// Mistakes of tsb_heads (`red_before_8`, `would_be_green`, `would_drop`).
 /// Witness: `goes_over` of OverlapRuns, in which phase 1 has just left its green.
@@ -95,12 +96,22 @@ pub fn overlaps_go_with_phases()
 /// and it is green after the next tick too. This holds in each tick until phase 8 is Green, as commitments stand.
 ///
 /// Needs: a tick that does not trip the monitor.
-/// Not said: anything where the ring of phase 1 is committed to no phase; it may be Red before phase 8 is Green.
+/// Not said: anything of overlaps that trail, and anything where the ring of phase 1 is committed to no phase; it may be Red before phase 8 is Green.
 /// Mistake: an overlap that counts its own ring alone, `by_own_ring` (`shows_green`, `would_leave_green`).
 /// Witness: `goes_over` of OverlapRuns.
+///
+/// `trails`: An overlap begins to trail with the end of a green. A tick after which its phases keep it green no more ends
+/// the green of a phase that it includes.
+///
+/// Needs: that the controller has not tripped.
+/// Not said: how long it trails.
+/// Mistake: an overlap that begins to trail with the red clearance of its phase, `kept_through_yellow` of ArrowMistakes
+/// (`trails_then`, `ends_a_yellow`, `would_trail_late`).
+/// Witness: `ends_a_green` of ArrowMistakes.
 pub fn overlaps_last_across_rings()
     ensures ends { OverlapsEndWithAGreen }
     ensures across { OverlapsLastAcrossRings }
+    ensures trails { TrailsBeginWithAGreen }
 {}
 
 /// `bounded`: The maximum in use stays between the smaller and the larger of the maximum and the limit of the dynamic
@@ -193,8 +204,8 @@ pub fn wanted_phases_start()
 /// larger of the walk and pedestrian clearance left to a green and of the wait and the green of an older commitment,
 /// then the clearance or the red revert, and four ticks.
 ///
-/// Needs: an untripped stretch; at most 16 phases. Where a commit changes a time meanwhile, the largest counts, of walk
-/// and of pedestrian clearance each.
+/// Needs: an untripped stretch; at most 16 phases; no overlap that trails. Where a commit changes a time meanwhile, the
+/// largest counts, of walk and of pedestrian clearance each.
 /// Not said: that they stay Green. A lower preempt, or a time of dwell that has passed, may end the stage before.
 /// Mistakes: a preempt whose rings look for its phases on their own side alone, `looks_here` of MistakenRuns, for more
 /// than the 75 ticks that are given (`reaches_within_75`, `would_not_reach`); one whose rings rest where it wants the
@@ -250,7 +261,7 @@ pub fn preempts_that_choose_come_sooner()
 /// The longest entry of a worksheet holds. A preempt that stays in the stage in which its service began has all phases of
 /// it Green within the time that `tsb_field worksheet` prints for it, whatever inputs come.
 ///
-/// Needs: an untripped stretch in which the plan in effect stays; at most 16 phases.
+/// Needs: an untripped stretch in which the plan in effect stays, and no overlap of it trails; at most 16 phases.
 /// Not said: that its input leads to a service, and when; how long its delay lasts.
 /// Mistake: an entry without the clearance of an older commitment, `one_clearance` of WorksheetRuns (`would_print_45`,
 /// `would_be_late`).
@@ -276,8 +287,8 @@ pub fn pressed_greens_may_end()
 /// order of its ring, on the side that is served, it is Green within a time that the plan gives: what the ring has begun,
 /// and the turns of the phases that are still to come on that side. However many other calls come, it is not passed over.
 ///
-/// Needs: a plan in which all phases of one side and of different rings are concurrent; a call that stays, and no commit;
-/// an untripped run; at most 16 phases.
+/// Needs: a plan in which all phases of one side and of different rings are concurrent and no overlap trails; a call that
+/// stays, and no commit; an untripped run; at most 16 phases.
 /// Not said: that a phase of another side is served, or one that its ring has passed (`called_phases_are_served`).
 /// Mistake: a ring that crosses the barrier as soon as another side is called, `crosses_first` (`goes_to_2`,
 /// `would_cross`), for more than the 83 ticks that are given (`comes_within_83`, `would_not_come` of MistakenRuns).
@@ -291,8 +302,8 @@ pub fn called_phases_come()
 /// crossing of the barrier begins within a time that the plan gives: what both have begun, and the turns of the phases
 /// that are still to come there.
 ///
-/// Needs: a plan in which all phases of one side and of different rings are concurrent; a call that stays, and no commit;
-/// an untripped run; at most 16 phases.
+/// Needs: a plan in which all phases of one side and of different rings are concurrent and no overlap trails; a call that
+/// stays, and no commit; an untripped run; at most 16 phases.
 /// Not said: that the crossing goes to the side of that phase; it goes to the next side that is called.
 /// Mistake: a ring that goes round its order though another side is called, `goes_round` (`wants_to_cross`,
 /// `would_go_to_1`). No run that breaks the bound is computed, since it would be of over 200 ticks.
@@ -307,8 +318,8 @@ pub fn crossings_begin()
 /// crossing for each side, and the turns of its ring on its own. To leave its side its ring may be called on to each phase
 /// beside it, and wait each time for all turns across. A preempt may have left the rings as it likes.
 ///
-/// Needs: a plan in which all phases of one side and of different rings are concurrent; a call that stays, and no commit;
-/// an untripped run; at most 16 phases.
+/// Needs: a plan in which all phases of one side and of different rings are concurrent and no overlap trails; a call that
+/// stays, and no commit; an untripped run; at most 16 phases.
 /// Not said: that its walk begins; anything while a pattern runs or a preempt is in service.
 /// Mistakes: a crossing that goes to the lowest side that is called, `lowest_side` (`goes_to_side_3`,
 /// `would_go_to_side_1`); a ring that goes round its order, as of `crossings_begin` (`would_go_to_1`). No run that
@@ -367,8 +378,9 @@ pub fn coordination_goes_on()
 /// time is the sum that `called_phases_are_served` names, by the turns and the orders of the pattern. A turn is a cycle,
 /// or what the phase asks for if that is longer, and what its ring may clear.
 ///
-/// Needs: a plan in which all phases of one side and of different rings are concurrent; a local counter that is in step
-/// as it begins; no pattern selected and nothing committed meanwhile; an untripped run; at most 16 phases.
+/// Needs: a plan in which all phases of one side and of different rings are concurrent and no overlap trails; a local
+/// counter that is in step as it begins; no pattern selected and nothing committed meanwhile; an untripped run; at most
+/// 16 phases.
 /// Not said: that its walk begins; anything of a time in which a preempt is in service.
 /// Mistake: a ring that looks across the barrier for its own phases alone, `by_own_ring` (`may_end_2`, `has_conflict_2`,
 /// `would_rest`). No run that breaks the bound is computed, since it would be of over 1,700 ticks.

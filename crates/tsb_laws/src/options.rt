@@ -21,18 +21,20 @@ ghost use Rattle.tsb_laws.specs.WithoutOptions.{OptionsAloneRead, OptionsAreAllT
 /// Mistake: as of runs.
 /// Witness: `an_off_run` of OffRuns.
 ///
-/// `lists`: The options are the objects that version 1 of plan texts does not have, without those of the schedule.
-/// There are twelve, and two objects that one of these alone reads: the step of the dynamic maximum and the correction
-/// limit. The eight objects of the schedule are read in the rules K24 to K27 alone, so that no run needs them to be 0.
+/// `lists`: The options are the objects that version 1 of plan texts does not have, without those of the schedule
+/// and of channels.
+/// There are fourteen, and five objects that one of these alone reads: the step of the dynamic maximum, the correction
+/// limit, the delay of arrows and their crosswalks, and the trailing red clearance. The nine objects of the schedule are
+/// read in the rules K24 to K27 alone, and the two of channels nowhere, so that no run needs them to be 0.
 ///
 /// Mistake: a list without the modifier phases of overlaps, `without_modifiers` (`is_later`, `would_be_left_out`).
 /// Witness: none is needed, as the law asks for nothing.
 ///
-/// `reads`: The controller without options reads none. Two plans that differ in those fourteen objects alone, whatever
+/// `reads`: The controller without options reads none. Two plans that differ in those nineteen objects alone, whatever
 /// these are, give the same run of it, over inputs of every kind.
 ///
-/// Needs: no edit of the three that are of overlaps. One that changes them is of the structure, and the rings forget what
-/// they started last.
+/// Needs: no edit of the four of overlaps that are of the structure. As one is changed, the rings forget what they
+/// started last.
 /// Mistake: a K23 that asks for a permissive time in the controller without options, `first_broken_of_times`
 /// (`breaks_none`, `would_break_k23`).
 /// Witness: `a_read` of ReadRuns.
@@ -45,7 +47,7 @@ ghost use Rattle.tsb_laws.specs.WithoutOptions.{OptionsAloneRead, OptionsAreAllT
 /// Witness: `a_read` of ReadRuns.
 ///
 /// `alone`: What an option alone reads does not matter while the options are 0. Two plans whose options are 0, and that
-/// differ in the step of a dynamic maximum or in the correction limit, give the same run.
+/// differ in the five objects that an option alone reads, give the same run.
 ///
 /// Needs: each option 0 in both plans, no edit that gives one another value, and none of those of overlaps.
 /// Not said: anything of the step where the limit of its dynamic maximum is 0 and another option is not.

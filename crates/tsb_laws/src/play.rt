@@ -59,6 +59,7 @@ fn lamp_is_typed(lamp: &Option<Lamp>)
         Some(Lamp::Phase(phase, _)) => phase.known(),
         Some(Lamp::Pedestrian(phase, _)) => phase.known(),
         Some(Lamp::Overlap(overlap, _)) => overlap.known(),
+        Some(Lamp::Arrow(overlap)) => overlap.known(),
     }
 }
 

@@ -50,8 +50,8 @@ pub fn enabled_are_served()
 /// A commitment is served in time. Outside a crossing, the commitment that is made as a green ends starts within the
 /// larger of that phase's yellow change and red clearance and its own red revert, whatever inputs come.
 ///
-/// Needs: an untripped stretch without a preempt in service that chooses anew; at most 16 phases, as every plan in
-/// memory has. Where a commit changes a time meanwhile, the largest counts.
+/// Needs: an untripped stretch without a preempt in service that chooses anew, and without an overlap that trails; at
+/// most 16 phases, as every plan in memory has. Where a commit changes a time meanwhile, the largest counts.
 /// Not said: that a call leads to a commitment.
 /// Mistake: a start that waits for the other ring to clear, `may_start_alone` (`starts_2`, `would_wait`), and by
 /// `waits_for_both` for longer than the 40 ticks that are given (`would_not_start`).

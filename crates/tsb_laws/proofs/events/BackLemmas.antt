@@ -14,13 +14,13 @@ use Rattle.tsb_step.proofs.tsb_types.FirstLemmas.{first-none}
 use Rattle.tsb_step.proofs.tsb_types.SetLemmas.{names-zero}
 use Rattle.tsb_step.specs.tsb_heads.Colours as colours
 use Rattle.tsb_step.specs.tsb_heads.Monitoring as monitor
-use Rattle.tsb_step.specs.tsb_heads.Overlaps.{is_kept_green, is_on_last_yellow, is_on_yellow, overlap_head}
+use Rattle.tsb_step.specs.tsb_heads.Overlaps.{is_kept_green, is_on_last_yellow, is_on_yellow, head_by_phases, overlap_head}
 use Rattle.tsb_step.specs.tsb_plan.declared.object.Object.TheVariants.{OverlapIncludedPhases}
-use Rattle.tsb_step.specs.tsb_plan.Parts.{is_included, is_minus_green_yellow}
+use Rattle.tsb_step.specs.tsb_plan.Parts.{is_included, is_minus_green_yellow, is_timed}
 use Rattle.tsb_step.specs.tsb_plan.Plan.{Plan, phases}
 use Rattle.tsb_step.specs.declared.inputs.Input.{Input}
 use Rattle.tsb_step.specs.declared.log_form.LogForm.{LogForm}
-use Rattle.tsb_step.specs.Events.{View, events_of, is_overlap, view}
+use Rattle.tsb_step.specs.Events.{View, events_of, is_overlap, lit_overlaps, view}
 use Rattle.tsb_step.specs.Laws.{IsConsistent}
 use Rattle.tsb_step.specs.Runs.{replay, AreTaken}
 use Rattle.tsb_step.specs.Signs.{display, local, shown, stage}
@@ -31,12 +31,12 @@ use Rattle.tsb_field_display.specs.declared.shown.Signals.{Signals}
 use Rattle.tsb_field_display.specs.Events as lines
 use Rattle.tsb_field_display.specs.Events.{events_after, events_of_lines}
 use Rattle.tsb_field_display.specs.Laws.{AreAllApart, IsLit}
-use Rattle.tsb_field_display.specs.ReadBack.{lit_after, read_back, says_at, says_clearance, says_flash, says_green, says_overlap_green, says_overlap_yellow, says_walk, says_yellow}
+use Rattle.tsb_field_display.specs.ReadBack.{lit_after, read_back, says_at, says_clearance, says_flash, says_green, says_overlap_arrow, says_overlap_green, says_overlap_yellow, says_walk, says_yellow}
 use Rattle.tsb_field_display.specs.Reading.{field}
 use Rattle.tsb_field_display.specs.Shows.{AreApart, nothing_lit}
 use Rattle.tsb_field_display.proofs.HeadLemmas.{Shows, line-shows}
 use Rattle.tsb_field_display.proofs.LawLemmas.{tell-the-heads}
-use Rattle.tsb_field_display.proofs.LetterLemmas.{apart-overlaps, apart-pedestrians}
+use Rattle.tsb_field_display.proofs.LetterLemmas.{apart-green_arrows, apart-overlaps, apart-pedestrians, apart-yellow_arrows}
 use Rattle.tsb_text.specs.recording.Along.{noted_after, told_along}
 use Rattle.tsb_laws.specs.Told.{RunsTellTheHeads, is_of_line, shown_in, signals}
 use Rattle.tsb_laws.proofs.events.LineLemmas.{Sees, by_line, lines-same, lines_of, wide-whole}
@@ -60,14 +60,21 @@ last-yellow-none : (plan : Plan) (o : ℕ) → is_on_last_yellow plan (shown (st
 unfolding is_on_last_yellow
 last-yellow-none plan o = any-never _ (phases plan) (λ p. and_right (is_included plan o p) false refl)
 
--- an overlap is red or dark
-unlit : (test : Aspect → Bool) → test Dark ≡ false → test Red ≡ false → (plan : Plan) (o : ℕ) → test (overlap_head plan (shown (start plan)) o) ≡ false
-unlit test dark red plan o = elim (cases_Bool (plan.value OverlapIncludedPhases o == 0)) [
+unlit-by-phases : (test : Aspect → Bool) → test Dark ≡ false → test Red ≡ false → (plan : Plan) (o : ℕ) →
+    test (head_by_phases plan (shown (start plan)) o) ≡ false
+unlit-by-phases test dark red plan o = elim (cases_Bool (plan.value OverlapIncludedPhases o == 0)) [
   | inl h ↦ rw h dark
   | inr h ↦ elim (cases_Bool (is_minus_green_yellow plan o)) [
     | inl k ↦ rw (h, k) (rw (kept-none plan o, last-yellow-none plan o) red)
     | inr k ↦ rw (h, k) (rw (kept-none plan o, yellow-none plan o) red)
   ]
+]
+
+-- an overlap is red or dark
+unlit : (test : Aspect → Bool) → test Dark ≡ false → test Red ≡ false → (plan : Plan) (o : ℕ) → test (overlap_head plan (shown (start plan)) o) ≡ false
+unlit test dark red plan o = elim (cases_Bool (is_timed plan o)) [
+  | inl t ↦ rw t red
+  | inr t ↦ rw t (unlit-by-phases test dark red plan o)
 ]
 
 nothing-seen : (plan : Plan) → Sees nothing_lit (view (start plan)) (stage (start plan))
@@ -79,6 +86,7 @@ nothing-seen plan = record {
   clearances = λ p from within. names-zero p;
   overlap_greens = λ o from within. names-zero o ∙ sym (ap (λ (b : Bool). is_overlap o && b) (unlit monitor.is_green refl refl plan o) ∙ and_right (is_overlap o) false refl);
   overlap_yellows = λ o from within. names-zero o ∙ sym (ap (λ (b : Bool). is_overlap o && b) (unlit colours.is_yellow refl refl plan o) ∙ and_right (is_overlap o) false refl);
+  overlap_arrows = λ o from within. names-zero o ∙ sym (ap (λ (b : Bool). is_overlap o && b) (unlit colours.is_flashing_yellow refl refl plan o) ∙ and_right (is_overlap o) false refl);
   preempt = refl;
   known = tt;
   preempts = refl;
@@ -93,8 +101,8 @@ lines-none : (tick : ℕ) (v : View) → lines_of tick v v ≡ []
 lines-none tick v =
     λ i. (none-told tick 1 v.greens i ++ none-told tick 7 v.greens i ++ none-told tick 8 v.yellows i ++ none-told tick 9 v.yellows i)
     ++ (none-told tick 21 v.walks i ++ none-told tick 22 v.clearances i ++ none-told tick 23 (either v.walks v.clearances) i)
-    ++ (none-told tick 61 v.overlap_greens i ++ none-told tick 63 v.overlap_yellows i
-    ++ none-told tick 64 (either v.overlap_greens v.overlap_yellows) i)
+    ++ (none-told tick 32 v.overlap_arrows i ++ none-told tick 33 v.overlap_arrows i)
+    ++ (none-told tick 61 v.overlap_greens i ++ none-told tick 63 v.overlap_yellows i ++ none-told tick 64 (lit_overlaps v) i)
     ++ none-told tick 105 v.preempts i ++ same-flash v.flashes tick i
 
 -- at power-up nothing is lit
@@ -135,6 +143,8 @@ line-apart : (s : State) → AreApart (signals true s)
 line-apart s = record {
   pedestrians = apart-pedestrians (field 25 16 (line_in true s));
   overlaps = apart-overlaps (field 54 16 (line_in true s));
+  green_arrows = apart-green_arrows (field 54 16 (line_in true s));
+  yellow_arrows = apart-yellow_arrows (field 54 16 (line_in true s));
 }
 
 apart-more : (ls : List Shown) (line : Shown) → AreAllApart ls → AreApart line.signals → AreAllApart (ls ++ line ∷ [])
@@ -160,10 +170,13 @@ none-clearance : (c : ℕ) → by_line c ≡ false → says_clearance c ≡ None
 none-clearance c h = rw (differs by_line c 21 h refl, differs by_line c 22 h refl, differs by_line c 23 h refl) refl
 
 none-overlap-green : (c : ℕ) → by_line c ≡ false → says_overlap_green c ≡ None
-none-overlap-green c h = rw (differs by_line c 61 h refl, differs by_line c 63 h refl, differs by_line c 64 h refl) refl
+none-overlap-green c h = rw (differs by_line c 61 h refl, differs by_line c 63 h refl, differs by_line c 64 h refl, differs by_line c 32 h refl) refl
 
 none-overlap-yellow : (c : ℕ) → by_line c ≡ false → says_overlap_yellow c ≡ None
-none-overlap-yellow c h = rw (differs by_line c 61 h refl, differs by_line c 63 h refl, differs by_line c 64 h refl) refl
+none-overlap-yellow c h = rw (differs by_line c 61 h refl, differs by_line c 63 h refl, differs by_line c 64 h refl, differs by_line c 32 h refl) refl
+
+none-overlap-arrow : (c : ℕ) → by_line c ≡ false → says_overlap_arrow c ≡ None
+none-overlap-arrow c h = rw (differs by_line c 32 h refl, differs by_line c 33 h refl) refl
 
 none-flash : (e : Event) → by_line e.code ≡ false → says_flash e ≡ None
 none-flash e h = rw (differs by_line e.code 173 h refl) refl
@@ -182,6 +195,7 @@ heads-told-back form plan is ok few taken = record {
   clearance = λ p from within. by says_clearance p none-clearance ∙ lit.clearance p from within ∙ shows.clearances p from within;
   overlap_green = λ o from within. by says_overlap_green o none-overlap-green ∙ lit.overlap_green o from within ∙ shows.overlap_greens o from within;
   overlap_yellow = λ o from within. by says_overlap_yellow o none-overlap-yellow ∙ lit.overlap_yellow o from within ∙ shows.overlap_yellows o from within;
+  overlap_arrow = λ o from within. by says_overlap_arrow o none-overlap-arrow ∙ lit.overlap_arrow o from within ∙ shows.overlap_arrows o from within;
   flash = all says_flash none-flash ∙ lit.flash ∙ flash;
 }
   where

@@ -21,7 +21,7 @@ use Rattle.tsb_step.specs.Events.{View, Found, Selected, events_of, found, reque
 use Rattle.tsb_step.specs.Runs.{replay}
 use Rattle.tsb_step.specs.State.{State}
 use Rattle.tsb_step.specs.Step.{step}
-use Rattle.tsb_events.proofs.OrderLemmas.{alarm-span, call-span, clearing-span, crossing-span, ending-span, cycle-span, flash-span, green-span, one-code, overlap-span, pattern-span, pedestrian-span, preempt-span, zero-span}
+use Rattle.tsb_events.proofs.OrderLemmas.{alarm-span, arrow-span, call-span, clearing-span, crossing-span, ending-span, cycle-span, flash-span, green-span, one-code, overlap-span, pattern-span, pedestrian-span, preempt-span, zero-span}
 use Rattle.tsb_log_text.specs.declared.log.LogRow.{LogRow}
 use Rattle.tsb_field_display.specs.Inputs.{events_behind, events_of_row, events_of_rows}
 use Rattle.tsb_field_display.specs.SessionLaws.{is_of_input}
@@ -62,14 +62,16 @@ ticks-kept tick f v w =
   where
     before : Kept by_input
         (events.green_events tick v w ++ events.ending_events tick f ++ events.clearing_events tick v w ++ events.pedestrian_events tick v w
-        ++ events.crossing_events tick v w ++ events.call_events tick f.noted.form v w ++ events.overlap_events tick v w) []
+        ++ events.crossing_events tick v w ++ events.arrow_events tick v w ++ events.call_events tick f.noted.form v w
+        ++ events.overlap_events tick v w) []
     before =
-        first-alone (first-alone (first-alone (first-alone (first-alone (first-alone
+        first-alone (first-alone (first-alone (first-alone (first-alone (first-alone (first-alone
         (none-of (green-span tick v w) (not-among 0 3 input_codes refl))
         (none-of (ending-span tick f) (not-among 3 7 input_codes refl)))
         (none-of (clearing-span tick v w) (not-among 7 13 input_codes refl)))
         (none-of (pedestrian-span tick v w) (not-among 21 24 input_codes refl)))
         (none-of (crossing-span tick v w) (not-among 31 32 input_codes refl)))
+        (none-of (arrow-span tick v w) (not-among 32 34 input_codes refl)))
         (none-of (call-span tick f.noted.form v w) (not-among 43 46 input_codes refl)))
         (none-of (overlap-span tick v w) (not-among 61 66 input_codes refl))
 
@@ -86,12 +88,13 @@ others-kept tick noted v w s t =
   where
     before : Kept by_input
         (events.green_events tick v w ++ events.clearing_events tick v w ++ events.pedestrian_events tick v w
-        ++ events.call_events tick noted.form v w ++ events.overlap_events tick v w) []
+        ++ events.arrow_events tick v w ++ events.call_events tick noted.form v w ++ events.overlap_events tick v w) []
     before =
-        first-alone (first-alone (first-alone (first-alone
+        first-alone (first-alone (first-alone (first-alone (first-alone
         (none-of (green-span tick v w) (not-among 0 3 input_codes refl))
         (none-of (clearing-span tick v w) (not-among 7 13 input_codes refl)))
         (none-of (pedestrian-span tick v w) (not-among 21 24 input_codes refl)))
+        (none-of (arrow-span tick v w) (not-among 32 34 input_codes refl)))
         (none-of (call-span tick noted.form v w) (not-among 43 46 input_codes refl)))
         (none-of (overlap-span tick v w) (not-among 61 66 input_codes refl))
 

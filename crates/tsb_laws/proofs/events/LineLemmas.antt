@@ -12,13 +12,13 @@ use Rattle.tsb_step.specs.tsb_types.declared.stage.Stage.{Stage}
 use Rattle.tsb_step.proofs.tsb_types.NumberLemmas.{filter-none, numbers-least}
 use Rattle.tsb_step.specs.Events as events
 use Rattle.tsb_step.specs.declared.log_form.Noted.{Noted}
-use Rattle.tsb_step.specs.Events.{View, Found, Selected, serves}
+use Rattle.tsb_step.specs.Events.{View, Found, Selected, lit_overlaps, serves}
 use Rattle.tsb_events.proofs.AgreeLemmas.{begun-same, agree-either}
 use Rattle.tsb_events.proofs.OrderLemmas.{alarm-span, button-span, call-span, crossing-span, cycle-span, ending-span, one-code, pattern-span, request-span, vehicle-span, zero-span}
 use Rattle.tsb_field_display.specs.declared.shown.Shown.{Shown}
 use Rattle.tsb_field_display.specs.declared.shown.Signals.{Signals}
 use Rattle.tsb_field_display.specs.Events as lines
-use Rattle.tsb_field_display.specs.Events.{is_green, is_yellow, is_walk, is_clearance, is_overlap_green, is_overlap_yellow, is_in_flash}
+use Rattle.tsb_field_display.specs.Events.{is_green, is_yellow, is_walk, is_clearance, is_overlap_green, is_overlap_yellow, is_overlap_arrow, is_overlap_lit, is_in_flash}
 use Rattle.tsb_laws.specs.Told.{is_on_line, is_of_line}
 use Rattle.tsb_laws.proofs.events.KeptLemmas.{Kept, both, first-alone, second-alone, all-told, none-told, none-of, not-among}
 
@@ -26,7 +26,7 @@ use Rattle.tsb_laws.proofs.events.KeptLemmas.{Kept, both, first-alone, second-al
 
 -- display lines have events of these codes
 abbrev line_codes : List ℕ
-line_codes = 1 ∷ 7 ∷ 8 ∷ 9 ∷ 21 ∷ 22 ∷ 23 ∷ 61 ∷ 63 ∷ 64 ∷ 105 ∷ 173 ∷ []
+line_codes = 1 ∷ 7 ∷ 8 ∷ 9 ∷ 21 ∷ 22 ∷ 23 ∷ 32 ∷ 33 ∷ 61 ∷ 63 ∷ 64 ∷ 105 ∷ 173 ∷ []
 
 abbrev pub by_line : ℕ → Bool
 by_line c = among c line_codes
@@ -44,12 +44,12 @@ pedestrians_of tick v w =
 abbrev overlaps_of : ℕ → View → View → List Event
 overlaps_of tick v w =
     told tick 61 (begins v.overlap_greens w.overlap_greens) ++ told tick 63 (begins v.overlap_yellows w.overlap_yellows)
-    ++ told tick 64 (ends (either v.overlap_greens v.overlap_yellows) (either w.overlap_greens w.overlap_yellows))
+    ++ told tick 64 (ends (lit_overlaps v) (lit_overlaps w))
 
 -- the events of display lines, of what a log sees
 abbrev pub lines_of : ℕ → View → View → List Event
 lines_of tick v w =
-    vehicles_of tick v w ++ pedestrians_of tick v w ++ overlaps_of tick v w ++ told tick 105 (begins v.preempts w.preempts)
+    vehicles_of tick v w ++ pedestrians_of tick v w ++ events.arrow_events tick v w ++ overlaps_of tick v w ++ told tick 105 (begins v.preempts w.preempts)
     ++ events.flash_events tick v w
 
 abbrev of_greens : ℕ → View → View → List Event
@@ -78,8 +78,12 @@ kept-pedestrian tick v w =
 
 kept-overlap : (tick : ℕ) (v w : View) → Kept by_line (events.overlap_events tick v w) (overlaps_of tick v w)
 kept-overlap tick v w =
-    first-alone (both (both (all-told by_line tick codes.OVERLAP_GREEN_BEGINS _ refl) (all-told by_line tick codes.OVERLAP_YELLOW_BEGINS _ refl))
+    first-alone (both (both (first-alone (all-told by_line tick codes.OVERLAP_GREEN_BEGINS _ refl)
+    (none-told by_line tick codes.OVERLAP_TRAIL_BEGINS _ refl)) (all-told by_line tick codes.OVERLAP_YELLOW_BEGINS _ refl))
     (all-told by_line tick codes.OVERLAP_RED_BEGINS _ refl)) (none-told by_line tick codes.OVERLAP_OFF _ refl)
+
+kept-arrow : (tick : ℕ) (v w : View) → Kept by_line (events.arrow_events tick v w) (events.arrow_events tick v w)
+kept-arrow tick v w = both (all-told by_line tick codes.ARROW_BEGINS _ refl) (all-told by_line tick codes.ARROW_ENDS _ refl)
 
 kept-preempt : (tick : ℕ) (v w : View) → Kept by_line (events.preempt_events tick v w) (told tick 105 (begins v.preempts w.preempts))
 kept-preempt tick v w =
@@ -102,12 +106,12 @@ in-order a b c d = sym (append_assoc a (b ++ c) d) ∙ ap (λ (es : List Event).
 
 abbrev parted : ℕ → View → View → List Event
 parted tick v w =
-    of_greens tick v w ++ of_clearings tick v w ++ pedestrians_of tick v w ++ overlaps_of tick v w
+    of_greens tick v w ++ of_clearings tick v w ++ pedestrians_of tick v w ++ events.arrow_events tick v w ++ overlaps_of tick v w
     ++ told tick 105 (begins v.preempts w.preempts) ++ events.flash_events tick v w
 
 whole : (tick : ℕ) (v w : View) → parted tick v w ≡ lines_of tick v w
 whole tick v w =
-    ap (λ (es : List Event). es ++ pedestrians_of tick v w ++ overlaps_of tick v w ++ told tick 105 (begins v.preempts w.preempts)
+    ap (λ (es : List Event). es ++ pedestrians_of tick v w ++ events.arrow_events tick v w ++ overlaps_of tick v w ++ told tick 105 (begins v.preempts w.preempts)
     ++ events.flash_events tick v w)
     (in-order (of_greens tick v w) (told tick 7 (ends v.greens w.greens)) (told tick 8 (begins v.yellows w.yellows))
     (told tick 9 (ends v.yellows w.yellows)))
@@ -117,11 +121,12 @@ ticks-kept tick f v w = all.kept ∙ whole tick v w
   where
     to_overlaps : Kept by_line
         (events.green_events tick v w ++ events.ending_events tick f ++ events.clearing_events tick v w ++ events.pedestrian_events tick v w
-        ++ events.crossing_events tick v w ++ events.call_events tick f.noted.form v w ++ events.overlap_events tick v w)
-        (of_greens tick v w ++ of_clearings tick v w ++ pedestrians_of tick v w ++ overlaps_of tick v w)
+        ++ events.crossing_events tick v w ++ events.arrow_events tick v w ++ events.call_events tick f.noted.form v w
+        ++ events.overlap_events tick v w)
+        (of_greens tick v w ++ of_clearings tick v w ++ pedestrians_of tick v w ++ events.arrow_events tick v w ++ overlaps_of tick v w)
     to_overlaps =
-        both (first-alone (first-alone (both (both (first-alone (kept-green tick v w) (none-of (ending-span tick f) (not-among 3 7 line_codes refl))) (kept-clearing tick v w))
-        (kept-pedestrian tick v w)) (none-of (crossing-span tick v w) (not-among 31 32 line_codes refl)))
+        both (first-alone (both (first-alone (both (both (first-alone (kept-green tick v w) (none-of (ending-span tick f) (not-among 3 7 line_codes refl))) (kept-clearing tick v w))
+        (kept-pedestrian tick v w)) (none-of (crossing-span tick v w) (not-among 31 32 line_codes refl))) (kept-arrow tick v w))
         (none-of (call-span tick f.noted.form v w) (not-among 43 46 line_codes refl))) (kept-overlap tick v w)
 
     all : Kept by_line (events.tick_events tick f v w) (parted tick v w)
@@ -137,8 +142,8 @@ others-kept tick noted v w s t = all.kept ∙ whole tick v w
   where
     all : Kept by_line (events.other_events tick noted v w s t) (parted tick v w)
     all =
-        both (first-alone (first-alone (first-alone (both (first-alone (first-alone (first-alone (both (first-alone (both (both (kept-green tick v w) (kept-clearing tick v w))
-        (kept-pedestrian tick v w)) (none-of (call-span tick noted.form v w) (not-among 43 46 line_codes refl))) (kept-overlap tick v w))
+        both (first-alone (first-alone (first-alone (both (first-alone (first-alone (first-alone (both (first-alone (both (both (both (kept-green tick v w) (kept-clearing tick v w))
+        (kept-pedestrian tick v w)) (kept-arrow tick v w)) (none-of (call-span tick noted.form v w) (not-among 43 46 line_codes refl))) (kept-overlap tick v w))
         (none-of (vehicle-span tick noted noted.row v w) (not-among 81 83 line_codes refl))) (none-of (alarm-span tick v w) (not-among 83 85 line_codes refl)))
         (none-of (request-span tick noted.row noted.row v w) (not-among 102 105 line_codes refl))) (kept-preempt tick v w))
         (none-told by_line tick codes.EXIT_BEGINS _ refl))
@@ -154,7 +159,11 @@ lit_on is_wide test o = (is_wide || nat_le o 4) && test o
 
 -- what a line shows of a view
 abbrev pub on_line : Bool → View → View
-on_line is_wide v = record v { overlap_greens = lit_on is_wide v.overlap_greens; overlap_yellows = lit_on is_wide v.overlap_yellows }
+on_line is_wide v = record v {
+  overlap_greens = lit_on is_wide v.overlap_greens;
+  overlap_yellows = lit_on is_wide v.overlap_yellows;
+  overlap_arrows = lit_on is_wide v.overlap_arrows;
+}
 
 filter-twice : (p q : Event → Bool) (es : List Event) → filter (λ e. p e && q e) es ≡ filter q (filter p es)
 filter-twice p q [] = refl
@@ -209,13 +218,15 @@ begins-few f g o = go (nat_le o 4) (f o) (g o)
     go true a b = refl
     go false a b = refl
 
-either-few : (f g h k : ℕ → Bool) (o : ℕ) → begins (either (lit_on false f) (lit_on false g)) (either (lit_on false h) (lit_on false k)) o
-    ≡ (nat_le o 4 && begins (either f g) (either h k) o)
-either-few f g h k o = go (nat_le o 4) (f o) (g o) (h o) (k o)
+either-few : (f g h k l m : ℕ → Bool) (o : ℕ) →
+    begins (either (either (lit_on false f) (lit_on false g)) (lit_on false h)) (either (either (lit_on false k) (lit_on false l)) (lit_on false m)) o
+    ≡ (nat_le o 4 && begins (either (either f g) h) (either (either k l) m) o)
+either-few f g h k l m o = go (nat_le o 4) (f o) (g o) (h o) (k o) (l o) (m o)
   where
-    go : (few a b c d : Bool) → (((few && c) || (few && d)) && not ((few && a) || (few && b))) ≡ (few && ((c || d) && not (a || b)))
-    go true a b c d = refl
-    go false a b c d = refl
+    go : (few a b c d e i : Bool) → ((((few && d) || (few && e)) || (few && i)) && not (((few && a) || (few && b)) || (few && c)))
+        ≡ (few && (((d || e) || i) && not ((a || b) || c)))
+    go true a b c d e i = refl
+    go false a b c d e i = refl
 
 -- the events of lines, one after the other
 record Shows (es fs : List Event) : Type 0 where
@@ -243,11 +254,13 @@ flash-shown tick v w = go (w.flashes && not v.flashes) (v.flashes && not w.flash
 
 lines-shown : (tick : ℕ) (v w : View) → Shows (lines_of tick v w) (lines_of tick (on_line false v) (on_line false w))
 lines-shown tick v w =
-    join (join (join (join (join (join (join (all-shown tick 1 _ (λ n. refl)) (all-shown tick 7 _ (λ n. refl))) (all-shown tick 8 _ (λ n. refl))) (all-shown tick 9 _ (λ n. refl)))
+    join (join (join (join (join (join (join (join (all-shown tick 1 _ (λ n. refl)) (all-shown tick 7 _ (λ n. refl))) (all-shown tick 8 _ (λ n. refl))) (all-shown tick 9 _ (λ n. refl)))
     (join (join (all-shown tick 21 _ (λ n. refl)) (all-shown tick 22 _ (λ n. refl))) (all-shown tick 23 _ (λ n. refl))))
+    (join (few-shown tick 32 _ _ (λ n. refl) (begins-few v.overlap_arrows w.overlap_arrows))
+    (few-shown tick 33 _ _ (λ n. refl) (begins-few w.overlap_arrows v.overlap_arrows))))
     (join (join (few-shown tick 61 _ _ (λ n. refl) (begins-few v.overlap_greens w.overlap_greens))
     (few-shown tick 63 _ _ (λ n. refl) (begins-few v.overlap_yellows w.overlap_yellows)))
-    (few-shown tick 64 _ _ (λ n. refl) (either-few w.overlap_greens w.overlap_yellows v.overlap_greens v.overlap_yellows))))
+    (few-shown tick 64 _ _ (λ n. refl) (either-few w.overlap_greens w.overlap_yellows w.overlap_arrows v.overlap_greens v.overlap_yellows v.overlap_arrows))))
     (all-shown tick 105 _ (λ n. refl))) (flash-shown tick v w)
 
 -- a wide line shows all that events of lines are about
@@ -275,6 +288,7 @@ pub record Sees (s : Signals) (v : View) (served : Option (ℕ × Stage)) : Type
   pub clearances : Agree (is_clearance s) v.clearances
   pub overlap_greens : Agree (is_overlap_green s) v.overlap_greens
   pub overlap_yellows : Agree (is_overlap_yellow s) v.overlap_yellows
+  pub overlap_arrows : Agree (is_overlap_arrow s) v.overlap_arrows
   pub preempt : s.preempt ≡ option_map (λ (service : ℕ × Stage). service.0) served
   pub known : IsKnown served
   pub preempts : v.preempts ≡ serves (λ k. true) served
@@ -326,6 +340,9 @@ preempt-told tick was (Some x) known =
     told_if true = refl
     told_if false = refl
 
+lit-agree : (s : Signals) (v : View) (served : Option (ℕ × Stage)) → Sees s v served → Agree (is_overlap_lit s) (lit_overlaps v)
+lit-agree s v served sees = agree-either _ _ _ _ (agree-either _ _ _ _ sees.overlap_greens sees.overlap_yellows) sees.overlap_arrows
+
 -- the events of display lines, of the views that these show
 pub lines-same : (was : Signals) (now : Shown) (v w : View) (p q : Option (ℕ × Stage)) → Sees was v p → Sees now.signals w q →
     lines.events_of was now ≡ lines_of now.tick v w
@@ -335,10 +352,11 @@ lines-same was now v w p q one other =
     ++ begun-same now.tick 8 _ _ _ _ one.yellows other.yellows i ++ begun-same now.tick 9 _ _ _ _ other.yellows one.yellows i)
     ++ (begun-same now.tick 21 _ _ _ _ one.walks other.walks i ++ begun-same now.tick 22 _ _ _ _ one.clearances other.clearances i
     ++ begun-same now.tick 23 _ _ _ _ (agree-either _ _ _ _ other.walks other.clearances) (agree-either _ _ _ _ one.walks one.clearances) i)
+    ++ (begun-same now.tick 32 _ _ _ _ one.overlap_arrows other.overlap_arrows i
+    ++ begun-same now.tick 33 _ _ _ _ other.overlap_arrows one.overlap_arrows i)
     ++ (begun-same now.tick 61 _ _ _ _ one.overlap_greens other.overlap_greens i
     ++ begun-same now.tick 63 _ _ _ _ one.overlap_yellows other.overlap_yellows i
-    ++ begun-same now.tick 64 _ _ _ _ (agree-either _ _ _ _ other.overlap_greens other.overlap_yellows)
-    (agree-either _ _ _ _ one.overlap_greens one.overlap_yellows) i)
+    ++ begun-same now.tick 64 _ _ _ _ (lit-agree now.signals w q other) (lit-agree was v p one) i)
     ++ preempts i
     ++ lines.flash_events (one.flash i) now.tick (other.flash i)
   where

@@ -19,7 +19,7 @@ use Rattle.tsb_laws.proofs.safety.EnabledLemmas.{enabled_run}
 use Rattle.tsb_laws.proofs.safety.LastTickLemmas.{run_early}
 use Rattle.tsb_laws.proofs.events.LineLemmas.{Sees, lines_of, lines-same, on_line, shown-kept, ticks-kept, others-kept}
 use Rattle.tsb_laws.proofs.events.ServedLemmas.{known-run}
-use Rattle.tsb_laws.proofs.events.SeenLemmas.{preempt-known, sees}
+use Rattle.tsb_laws.proofs.events.SeenLemmas.{no-arrow-of-phases, preempt-known, sees}
 
 -- ## Display lines
 
@@ -33,7 +33,7 @@ pub lines-read : LinesAreReadInRuns
 lines-read is_wide plan is ok taken =
     let limit : (replay plan is).now ≤ TICKS = run_early plan is taken in
     read is_wide s.now (display s) (preempt_in_service s) (local s) (line_in is_wide s) (omega (arith, limit))
-    (preempt-known s (known-run plan is taken)) (fields is_wide s.now (display s) (preempt_in_service s) (local s))
+    (preempt-known s (known-run plan is taken)) (no-arrow-of-phases s) (fields is_wide s.now (display s) (preempt_in_service s) (local s))
   where
     s : State
     s = replay plan is

@@ -12,7 +12,7 @@ use Rattle.tsb_step.specs.tsb_types.declared.interval.Interval.TheVariants as in
 use Rattle.tsb_step.specs.tsb_types.declared.interval.PedestrianInterval.{PedestrianInterval}
 use Rattle.tsb_step.specs.tsb_types.declared.interval.PedestrianInterval.TheVariants as parts
 use Rattle.tsb_step.specs.tsb_types.declared.lamp.Aspect.{Aspect}
-use Rattle.tsb_step.specs.tsb_types.declared.lamp.Aspect.TheVariants.{Dark, Red, Yellow, Green, FlashingRed}
+use Rattle.tsb_step.specs.tsb_types.declared.lamp.Aspect.TheVariants.{Dark, Red, Yellow, Green, FlashingRed, FlashingYellow}
 use Rattle.tsb_step.specs.tsb_types.declared.lamp.PedestrianAspect.TheVariants as pedestrian_aspects
 use Rattle.tsb_step.proofs.tsb_types.FirstLemmas.{first-any, first-none}
 use Rattle.tsb_step.proofs.tsb_types.IntervalLemmas.{serves-green}
@@ -46,6 +46,7 @@ no-green Red = refl
 no-green Yellow = refl
 no-green Green = refl
 no-green FlashingRed = refl
+no-green FlashingYellow = refl
 
 no-yellow : (a : Aspect) → colours.is_yellow (flashed a) ≡ false
 no-yellow Dark = refl
@@ -53,6 +54,7 @@ no-yellow Red = refl
 no-yellow Yellow = refl
 no-yellow Green = refl
 no-yellow FlashingRed = refl
+no-yellow FlashingYellow = refl
 
 steady-green : (on : Bool) (i : Interval) → (in_service i ≡ true → on ≡ true) → monitor.is_green (if on then aspect_of i else Dark) ≡ is_green i
 steady-green true intervals.Red enabled = refl
@@ -209,6 +211,30 @@ flashing-seen s p = go s.trip
     go (Some t) = flashing-all (is_enabled s.plan p) (interval s p)
     go None = flashing-none (is_enabled s.plan p) (interval s p)
 
+-- arrows alone flash yellow
+steady-of : (on : Bool) (i : Interval) → colours.is_flashing_yellow (if on then aspect_of i else Dark) ≡ false
+steady-of true intervals.Red = refl
+steady-of true intervals.Green = refl
+steady-of true intervals.Yellow = refl
+steady-of true intervals.RedClear = refl
+steady-of false i = refl
+
+steady-flash : (a : Aspect) → colours.is_flashing_yellow (flashed a) ≡ false
+steady-flash Dark = refl
+steady-flash Red = refl
+steady-flash Yellow = refl
+steady-flash Green = refl
+steady-flash FlashingRed = refl
+steady-flash FlashingYellow = refl
+
+pub no-arrow-of-phases : (s : State) (p : ℕ) → colours.is_flashing_yellow ((display s).vehicle p) ≡ false
+unfolding display
+no-arrow-of-phases s p = go s.trip
+  where
+    go : (trip : Option Tripped) → colours.is_flashing_yellow ((displays.display s.plan (record (shown s) { tripped = is_some trip })).vehicle p) ≡ false
+    go (Some t) = steady-flash (vehicle_head s.plan (shown s) p)
+    go None = steady-of (is_enabled s.plan p) (interval s p)
+
 flash-seen : (is_wide : Bool) (s : State) (served : Option ℕ) → Shows is_wide (display s) served (signals is_wide s) → s.plan.phase_count ≤ 16 → some_enabled s.plan ≡ true →
     is_in_flash (signals is_wide s) ≡ is_some s.trip
 flash-seen is_wide s served shows few enabled = go s.trip refl
@@ -255,6 +281,8 @@ sees is_wide s good served enabled few = record {
       few-alone is_wide o _ (monitor.is_green ((display s).overlap o)) from within (λ small. shows.overlap_greens o from small) (shows.few_overlap_greens o);
   overlap_yellows = λ o from within.
       few-alone is_wide o _ (colours.is_yellow ((display s).overlap o)) from within (λ small. shows.overlap_yellows o from small) (shows.few_overlap_yellows o);
+  overlap_arrows = λ o from within.
+      few-alone is_wide o _ (colours.is_flashing_yellow ((display s).overlap o)) from within (λ small. shows.overlap_arrows o from small) (shows.few_overlap_arrows o);
   preempt = shows.preempt;
   known = preempt-known s served;
   preempts = refl;

@@ -9,19 +9,19 @@ use Rattle.tsb_step.specs.tsb_types.declared.interval.Interval.TheVariants as in
 use Rattle.tsb_step.specs.tsb_types.declared.interval.PedestrianInterval.{PedestrianInterval}
 use Rattle.tsb_step.specs.tsb_types.declared.interval.PedestrianInterval.TheVariants.{DontWalk, Walk, PedestrianClear}
 use Rattle.tsb_step.specs.tsb_types.declared.lamp.Aspect.{Aspect}
-use Rattle.tsb_step.specs.tsb_types.declared.lamp.Aspect.TheVariants.{Dark, Red, Yellow, Green, FlashingRed}
+use Rattle.tsb_step.specs.tsb_types.declared.lamp.Aspect.TheVariants.{Dark, Red, Yellow, Green, FlashingRed, FlashingYellow}
 use Rattle.tsb_step.specs.tsb_types.declared.lamp.PedestrianAspect.TheVariants as pedestrian_aspects
 use Rattle.tsb_step.specs.tsb_types.Intervals.{is_green, is_yellow, is_red_clear, is_dont_walk, in_service}
 use Rattle.tsb_step.specs.tsb_types.Sets.{names}
-use Rattle.tsb_step.specs.tsb_plan.declared.object.Object.TheVariants.{PhaseEnabled, PhaseRing, PhaseConcurrency, OverlapIncludedPhases, OverlapType, OverlapModifierPhases, OverlapAcrossRings}
+use Rattle.tsb_step.specs.tsb_plan.declared.object.Object.TheVariants.{PhaseEnabled, PhaseRing, PhaseConcurrency, OverlapIncludedPhases, OverlapType, OverlapModifierPhases, OverlapAcrossRings, OverlapTrailGreen}
 use Rattle.tsb_step.specs.tsb_plan.Objects.{is_structural}
-use Rattle.tsb_step.specs.tsb_plan.Parts.{is_included, is_modifier}
+use Rattle.tsb_step.specs.tsb_plan.Parts.{is_included, is_modifier, is_timed}
 use Rattle.tsb_step.specs.tsb_plan.Plan.{Plan, phases, ring_of, is_enabled, walk}
 use Rattle.tsb_step.specs.tsb_rules.PatternRules.{some_and}
 use Rattle.tsb_step.specs.tsb_heads.Heads.{Shown, aspect_of, vehicle_head, pedestrian_aspect_of, pedestrian_head}
 use Rattle.tsb_step.specs.tsb_heads.Displays.{ordered, flashed, flashing}
 use Rattle.tsb_step.specs.tsb_heads.Monitoring.{gives_way, lets_walk}
-use Rattle.tsb_step.specs.tsb_heads.Overlaps.{other_ring, is_followed, keeps_green, is_kept_green, is_on_yellow, has_green_modifier, has_yellow_modifier, is_on_last_yellow, overlap_head}
+use Rattle.tsb_step.specs.tsb_heads.Overlaps.{other_ring, is_followed, keeps_green, is_kept_green, is_on_yellow, has_green_modifier, has_yellow_modifier, is_on_last_yellow, head_by_phases, overlap_head}
 use Rattle.tsb_step.specs.tsb_heads.Reading.{commitment_of}
 use Rattle.tsb_step.specs.tsb_ring.Rings.{Ring, Ring1, Ring2}
 use Rattle.tsb_step.proofs.tsb_ring.MoveLemmas.{or_cases}
@@ -32,12 +32,16 @@ use Rattle.tsb_step.specs.State.{State, interval, pedestrian_part}
 use Rattle.tsb_step.specs.Signs.{display, shown}
 use Rattle.tsb_step.specs.Step.{step, verdict}
 use Rattle.tsb_step.specs.Good.{IsGood}
+use Rattle.tsb_step.specs.Backed.{AreBacked}
+use Rattle.tsb_step.specs.tsb_overlap.declared.parts.OverlapInterval.{OverlapInterval}
+use Rattle.tsb_step.specs.tsb_overlap.Overlap.{Overlap, light}
+use Rattle.tsb_laws.proofs.heads.TimedLemmas.{Source, timed_source}
 use Rattle.tsb_step.specs.TimeLaws.{is_tick}
 use Rattle.tsb_step.proofs.ClearLemmas.{plan_stays}
 use Rattle.tsb_step.proofs.EditLemmas.{kept, same_phase_count}
 use Rattle.tsb_step.proofs.EndLemmas.{walks_in_green}
 use Rattle.tsb_step.proofs.YellowLemmas.{leaves_structure, enabled_lit, plan_of_reset}
-use Rattle.tsb_laws.specs.LitHeads.{KeepsLitHeads}
+use Rattle.tsb_laws.specs.LitHeads.{is_lit, KeepsLitHeads}
 use Rattle.tsb_laws.proofs.safety.StretchLemmas.{Goes, ticks, stays, goes}
 
 -- ## Heads of a controller that has not tripped
@@ -56,6 +60,24 @@ flashes_no_way Red h = cc
 flashes_no_way Yellow h = cc
 flashes_no_way Green h = cc
 flashes_no_way FlashingRed h = cc
+flashes_no_way FlashingYellow h = cc
+
+pub flashes_not_lit : (a : Aspect) → is_lit (flashed a) ≡ true → ⊥
+flashes_not_lit Dark h = cc
+flashes_not_lit Red h = cc
+flashes_not_lit Yellow h = cc
+flashes_not_lit Green h = cc
+flashes_not_lit FlashingRed h = cc
+flashes_not_lit FlashingYellow h = cc
+
+-- right of way is one way to be lit
+pub way_is_lit : (a : Aspect) → gives_way a ≡ true → is_lit a ≡ true
+way_is_lit Green h = refl
+way_is_lit Yellow h = refl
+way_is_lit Dark h = cc
+way_is_lit Red h = cc
+way_is_lit FlashingRed h = cc
+way_is_lit FlashingYellow h = cc
 
 pub dark_by_vehicle : (s : State) (p : ℕ) → gives_way ((display s).vehicle p) ≡ true → is_some s.trip ≡ false
 unfolding display
@@ -65,7 +87,7 @@ dark_by_vehicle s p h = go (is_some s.trip) h
     go true k = absurd (flashes_no_way (vehicle_head s.plan (shown s) p) k)
     go false k = refl
 
-dark_by_pedestrian : (s : State) (p : ℕ) → lets_walk ((display s).pedestrian p) ≡ true → is_some s.trip ≡ false
+pub dark_by_pedestrian : (s : State) (p : ℕ) → lets_walk ((display s).pedestrian p) ≡ true → is_some s.trip ≡ false
 unfolding display
 dark_by_pedestrian s p h = go (is_some s.trip) h
   where
@@ -81,6 +103,14 @@ dark_by_overlap s o h = go (is_some s.trip) h
     go true k = absurd (flashes_no_way (overlap_head s.plan (shown s) o) k)
     go false k = refl
 
+pub dark_by_lit : (s : State) (o : ℕ) → is_lit ((display s).overlap o) ≡ true → is_some s.trip ≡ false
+unfolding display
+dark_by_lit s o h = go (is_some s.trip) h
+  where
+    go : (b : Bool) → is_lit ((if b then flashing (ordered s.plan (shown s)) else ordered s.plan (shown s)).overlap o) ≡ true → b ≡ false
+    go true k = absurd (flashes_not_lit (overlap_head s.plan (shown s) o) k)
+    go false k = refl
+
 -- ## What heads are found from
 
 record SamePlan (plan later : Plan) : Type 0 where
@@ -90,6 +120,7 @@ record SamePlan (plan later : Plan) : Type 0 where
   pub included : (o : ℕ) → later.value OverlapIncludedPhases o ≡ plan.value OverlapIncludedPhases o
   pub type : (o : ℕ) → later.value OverlapType o ≡ plan.value OverlapType o
   pub modifiers : (o : ℕ) → later.value OverlapModifierPhases o ≡ plan.value OverlapModifierPhases o
+  pub trail : (o : ℕ) → later.value OverlapTrailGreen o ≡ plan.value OverlapTrailGreen o
   pub option : (o : ℕ) → later.value OverlapAcrossRings o ≡ plan.value OverlapAcrossRings o
   pub lists : later.value PhaseConcurrency ≡ plan.value PhaseConcurrency
 
@@ -101,6 +132,7 @@ alike plan later e = record {
   included = λ o. ap (λ (x : Plan). x.value OverlapIncludedPhases o) e;
   type = λ o. ap (λ (x : Plan). x.value OverlapType o) e;
   modifiers = λ o. ap (λ (x : Plan). x.value OverlapModifierPhases o) e;
+  trail = λ o. ap (λ (x : Plan). x.value OverlapTrailGreen o) e;
   option = λ o. ap (λ (x : Plan). x.value OverlapAcrossRings o) e;
   lists = ap (λ (x : Plan). x.value PhaseConcurrency) e;
 }
@@ -115,6 +147,7 @@ alike_committed s station q good taken serves = record {
   included = λ o. kept is_structural s.plan s.desk.edits (leaves_structure s station q good taken serves) OverlapIncludedPhases o refl;
   type = λ o. kept is_structural s.plan s.desk.edits (leaves_structure s station q good taken serves) OverlapType o refl;
   modifiers = λ o. kept is_structural s.plan s.desk.edits (leaves_structure s station q good taken serves) OverlapModifierPhases o refl;
+  trail = λ o. kept is_structural s.plan s.desk.edits (leaves_structure s station q good taken serves) OverlapTrailGreen o refl;
   option = λ o. kept is_structural s.plan s.desk.edits (leaves_structure s station q good taken serves) OverlapAcrossRings o refl;
   lists = fun_ext (λ p. kept is_structural s.plan s.desk.edits (leaves_structure s station q good taken serves) PhaseConcurrency p refl);
 }
@@ -133,6 +166,7 @@ record SameSight (s t : State) : Type 0 where
   pub interval : (p : ℕ) → interval t p ≡ interval s p
   pub part : (p : ℕ) → pedestrian_part t p ≡ pedestrian_part s p
   pub commitment : (r : Ring) → t.rings.commitment r ≡ s.rings.commitment r
+  pub overlaps : t.overlaps ≡ s.overlaps
 
 sight_after : (s : State) (i : Input) (q : ℕ) → IsGood s → is_tick i ≡ false → verdict s i ≡ None → s.trip ≡ None →
     in_service (interval s q) ≡ true → SameSight s (step s i)
@@ -145,6 +179,7 @@ sight_after s i q good t taken dark serves = go (goes s i dark)
       interval = same.interval;
       part = same.part;
       commitment = same.commitment;
+      overlaps = same.overlaps;
     }
 
 -- ## Vehicle heads
@@ -307,9 +342,9 @@ head_same : (l m : ℕ) (x y : ℕ) (a b c d e v w z t u : Bool) → m ≡ l →
     head_by m y v w z t u ≡ head_by l x a b c d e
 head_same l m x y a b c d e v w z t u f g h i j k n = rw (f, g, h, i, j, k, n) refl
 
-same_overlap : (s t : State) (o : ℕ) → SameSight s t → overlap_head t.plan (shown t) o ≡ overlap_head s.plan (shown s) o
+by_phases_same : (s t : State) (o : ℕ) → SameSight s t → head_by_phases t.plan (shown t) o ≡ head_by_phases s.plan (shown s) o
 unfolding head_by
-same_overlap s t o same =
+by_phases_same s t o same =
     head_same (s.plan.value OverlapIncludedPhases o) (t.plan.value OverlapIncludedPhases o) (s.plan.value OverlapType o) (t.plan.value OverlapType o)
     (is_kept_green s.plan (shown s) o) (has_green_modifier s.plan (shown s) o) (is_on_last_yellow s.plan (shown s) o)
     (has_yellow_modifier s.plan (shown s) o) (is_on_yellow s.plan (shown s) o)
@@ -318,9 +353,24 @@ same_overlap s t o same =
     (same.plan.included o) (same.plan.type o) (kept_alike s t o same) (green_modifier_alike s t o same) (last_alike s t o same)
     (yellow_modifier_alike s t o same) (on_alike s t o same)
 
+-- with the light of one that has intervals of its own
+whole : ℕ → ℕ → ℕ → OverlapInterval → Aspect → Aspect
+whole list type trail own other = if (type == 2 && not (list == 0)) || (not (trail == 0) && not (list == 0)) then light own else other
+
+whole_same : (l m x y d e : ℕ) (i j : OverlapInterval) (a b : Aspect) → m ≡ l → y ≡ x → e ≡ d → j ≡ i → b ≡ a → whole m y e j b ≡ whole l x d i a
+whole_same l m x y d e i j a b f g h k n = rw (f, g, h, k, n) refl
+
+same_overlap : (s t : State) (o : ℕ) → SameSight s t → overlap_head t.plan (shown t) o ≡ overlap_head s.plan (shown s) o
+unfolding whole
+same_overlap s t o same =
+    whole_same (s.plan.value OverlapIncludedPhases o) (t.plan.value OverlapIncludedPhases o) (s.plan.value OverlapType o) (t.plan.value OverlapType o)
+    (s.plan.value OverlapTrailGreen o) (t.plan.value OverlapTrailGreen o) (s.overlaps o).interval (t.overlaps o).interval
+    (head_by_phases s.plan (shown s) o) (head_by_phases t.plan (shown t) o)
+    (same.plan.included o) (same.plan.type o) (same.plan.trail o) (ap (λ (f : ℕ → Overlap). (f o).interval) same.overlaps) (by_phases_same s t o same)
+
 -- ## A phase in service under an overlap that is lit
 
-record Server (s : State) : Type 0 where
+pub record Server (s : State) : Type 0 where
   pub phase : ℕ
   pub serves : in_service (interval s phase) ≡ true
 
@@ -380,9 +430,30 @@ lit_by list type false green false yellow false h = go (list == 0) (type == 1) h
     go false true k = absurd (false≢true k)
     go false false k = absurd (false≢true k)
 
-overlap_serves : (s : State) (o : ℕ) → gives_way (overlap_head s.plan (shown s) o) ≡ true → Server s
+-- by the phases a head that is lit gives right of way
+lit_gives_way : (list type : ℕ) (kept green last yellow on : Bool) → is_lit (head_by list type kept green last yellow on) ≡ true →
+    gives_way (head_by list type kept green last yellow on) ≡ true
 unfolding head_by
-overlap_serves s o h =
+lit_gives_way list type kept green last yellow on h =
+    go (list == 0) (type == 1) (kept && not green) (last && not yellow) kept on h
+  where
+    go : (a b c d e f : Bool) →
+        is_lit (if a then Dark else (if b then (if c then Green else (if d then Yellow else Red)) else (if e then Green else (if f then Yellow else Red)))) ≡ true →
+        gives_way (if a then Dark else (if b then (if c then Green else (if d then Yellow else Red)) else (if e then Green else (if f then Yellow else Red)))) ≡ true
+    go true b c d e f k = absurd (false≢true k)
+    go false true true d e f k = refl
+    go false true false true e f k = refl
+    go false true false false e f k = absurd (false≢true k)
+    go false false c d true f k = refl
+    go false false c d false true k = refl
+    go false false c d false false k = absurd (false≢true k)
+
+untimed_serves : (s : State) (o : ℕ) → is_lit (head_by_phases s.plan (shown s) o) ≡ true → Server s
+unfolding head_by
+untimed_serves s o lit =
+    let h : gives_way (head_by_phases s.plan (shown s) o) ≡ true =
+    lit_gives_way (s.plan.value OverlapIncludedPhases o) (s.plan.value OverlapType o) (is_kept_green s.plan (shown s) o) (has_green_modifier s.plan (shown s) o)
+    (is_on_last_yellow s.plan (shown s) o) (has_yellow_modifier s.plan (shown s) o) (is_on_yellow s.plan (shown s) o) lit in
     elim (lit_by (s.plan.value OverlapIncludedPhases o) (s.plan.value OverlapType o) (is_kept_green s.plan (shown s) o) (has_green_modifier s.plan (shown s) o)
     (is_on_last_yellow s.plan (shown s) o) (has_yellow_modifier s.plan (shown s) o) (is_on_yellow s.plan (shown s) o) h) [
       | inl k ↦ kept_serves s o k
@@ -392,11 +463,18 @@ overlap_serves s o h =
       ]
     ]
 
+pub overlap_serves : (s : State) → IsGood s → AreBacked s → (o : ℕ) → is_lit (overlap_head s.plan (shown s) o) ≡ true → Server s
+overlap_serves s good backed o h = go (is_timed s.plan o) refl h
+  where
+    go : (b : Bool) → is_timed s.plan o ≡ b → is_lit (if b then light (s.overlaps o).interval else head_by_phases s.plan (shown s) o) ≡ true → Server s
+    go true timed k = let x : Source s o = timed_source s good backed o timed k in record { phase = x.phase; serves = x.serves }
+    go false timed k = untimed_serves s o k
+
 -- ## The law
 
-pub keeps_lit_heads : (s : State) (i : Input) → IsGood s → is_tick i ≡ false → verdict s i ≡ None → (step s i).trip ≡ s.trip →
+pub keeps_lit_heads : (s : State) (i : Input) → IsGood s → AreBacked s → is_tick i ≡ false → verdict s i ≡ None → (step s i).trip ≡ s.trip →
     KeepsLitHeads (display s) (display (step s i))
-keeps_lit_heads s i good t taken trips = record {
+keeps_lit_heads s i good backed t taken trips = record {
   vehicle = λ p lit.
       (let dark : is_some s.trip ≡ false = dark_by_vehicle s p lit in
       let here : gives_way (vehicle_head s.plan (shown s) p) ≡ true = rw (dark_is_ordered s dark) at lit in
@@ -409,9 +487,9 @@ keeps_lit_heads s i good t taken trips = record {
       rw (dark_is_ordered s dark, dark_is_ordered (step s i) (ap is_some trips ∙ dark))
       (same_pedestrian s (step s i) p (sight_after s i p good t taken (is-none s.trip dark) (pedestrian_serves s p good here)) here));
   overlap = λ o lit.
-      (let dark : is_some s.trip ≡ false = dark_by_overlap s o lit in
-      let here : gives_way (overlap_head s.plan (shown s) o) ≡ true = rw (dark_is_ordered s dark) at lit in
-      let server : Server s = overlap_serves s o here in
+      (let dark : is_some s.trip ≡ false = dark_by_lit s o lit in
+      let here : is_lit (overlap_head s.plan (shown s) o) ≡ true = rw (dark_is_ordered s dark) at lit in
+      let server : Server s = overlap_serves s good backed o here in
       rw (dark_is_ordered s dark, dark_is_ordered (step s i) (ap is_some trips ∙ dark))
       (same_overlap s (step s i) o (sight_after s i server.phase good t taken (is-none s.trip dark) server.serves)));
 }

@@ -1,5 +1,5 @@
 -- What follows an input leads to one thing, or it is refused since memory ran out.
-use Rattle.std.proofs.Common.{◌≡◌, ◌⊎◌, List, [], Option, Some, None, refl, sym, ap, ◌∙◌, inl, inr}
+use Rattle.std.proofs.Common.{◌≡◌, ◌⊎◌, List, [], ◌∷◌, Option, Some, None, refl, sym, ap, ◌∙◌, inl, inr}
 use Rattle.tsb_step.specs.tsb_types.declared.refusal.Refusal.{Refusal}
 use Rattle.tsb_step.specs.tsb_types.declared.refusal.Refusal.TheVariants.{Memory}
 use Rattle.tsb_step.specs.tsb_machine.declared.commands.Answer.TheVariants as answers
@@ -40,13 +40,13 @@ refused-apart plan is cmd why whys x y = elim (answers-alike plan is cmd (answer
 abbrev pub LedAlike : Option Refusal → Option Refusal → List Input → List Input → Type 0
 LedAlike stop other new left = ((stop ≡ other) × (new ≡ left)) ⊎ ((stop ≡ Some Memory) ⊎ (other ≡ Some Memory))
 
-pub leads-alike : (given : Setup) (is : List Input) (next : Option Input) (stop other : Option Refusal) (new left : List Input)
+pub leads-alike : (given : Setup) (is next : List Input) (stop other : Option Refusal) (new left : List Input)
     → Leads given is next stop new → Leads given is next other left → LedAlike stop other new left
-leads-alike given is None stop other new left x y = inl (x.0 ∙ sym y.0, x.1 ∙ sym y.1)
-leads-alike given is (Some i) stop other new left (inl x) (inl y) = inl (x.1 ∙ sym y.1, x.2 ∙ sym y.2)
-leads-alike given is (Some i) stop other new left (inl x) (inr y) = inr (inr (y.refused ∙ ap Some (took-apart given.plan is (Apply i) y.why x.0 y.right)))
-leads-alike given is (Some i) stop other new left (inr x) (inl y) = inr (inl (x.refused ∙ ap Some (took-apart given.plan is (Apply i) x.why y.0 x.right)))
-leads-alike given is (Some i) stop other new left (inr x) (inr y) = elim (refused-apart given.plan is (Apply i) x.why y.why x.right y.right) [
+leads-alike given is [] stop other new left x y = inl (x.0 ∙ sym y.0, x.1 ∙ sym y.1)
+leads-alike given is (i ∷ next) stop other new left (inl x) (inl y) = leads-alike given (i ∷ is) next stop other new left x.1 y.1
+leads-alike given is (i ∷ next) stop other new left (inl x) (inr y) = inr (inr (y.refused ∙ ap Some (took-apart given.plan is (Apply i) y.why x.0 y.right)))
+leads-alike given is (i ∷ next) stop other new left (inr x) (inl y) = inr (inl (x.refused ∙ ap Some (took-apart given.plan is (Apply i) x.why y.0 x.right)))
+leads-alike given is (i ∷ next) stop other new left (inr x) (inr y) = elim (refused-apart given.plan is (Apply i) x.why y.why x.right y.right) [
   | inl e ↦ inl (x.refused ∙ ap Some e ∙ sym y.refused, x.left ∙ sym y.left)
   | inr memory ↦ elim memory [
     | inl m ↦ inr (inl (x.refused ∙ ap Some m))

@@ -22,7 +22,7 @@ use Rattle.tsb_step.specs.tsb_machine.declared.commands.Answer.TheVariants as an
 use Rattle.tsb_step.specs.tsb_machine.declared.commands.MachineCommand.TheVariants.{Apply}
 use Rattle.tsb_step.specs.tsb_types.declared.refusal.Refusal.{Refusal}
 use Rattle.tsb_step.specs.tsb_types.declared.refusal.Refusal.TheVariants.{Memory}
-use Rattle.tsb_text.specs.Answers.{GoesUnless, Leads, Setup, line_in, follower, follower_of, next_tick, refused_after, refused_line, told}
+use Rattle.tsb_text.specs.Answers.{GoesUnless, Leads, Setup, line_in, followers, followers_of, next_tick, refused_after, refused_line, told}
 use Rattle.tsb_text.specs.Obeys as session
 use Rattle.tsb_text.specs.Obeys.{AsksOnce, Besides, TakesTicks, before_line, news, news_of, or_refusal, refusal_in, trail, trail_of}
 use Rattle.tsb_text.specs.Tasks.{task_of}
@@ -40,21 +40,21 @@ use Rattle.tsb_laws.proofs.one_text.LeadLemmas.{LedAlike, ends-by, leads-alike, 
 abbrev Same : (text other : List ℕ) (why whys : Option Refusal) (new left : List Input) → Type 0
 Same text other why whys new left = ((text ≡ other) × (why ≡ whys) × (new ≡ left)) ⊎ ((why ≡ Some Memory) ⊎ (whys ≡ Some Memory))
 
-once-text : Setup → Besides → List Input → Cmd → Answer → Option Refusal → List ℕ
-once-text given b is cmd a stop =
-    (before_line b.echo a (news_of b.tells given is cmd) ++ trail_of b.tells given is cmd a stop)
+once-text : Setup → Besides → List Input → Cmd → Answer → Option Refusal → List Input → List ℕ
+once-text given b is cmd a stop new =
+    (before_line b.echo a (news_of b.tells given is cmd) ++ trail_of b.tells given is cmd a new)
     ++ (with_feed (told given.is_wide cmd a (replay given.plan (remaining_after given.plan is cmd a))) ++ refused_after b.echo stop)
 
 -- what follows the same answer
 once-led : (given : Setup) (b : Besides) (is : List Input) (cmd : Cmd) (text other : List ℕ) (why whys : Option Refusal) (new left : List Input)
     → (x : AsksOnce given b is cmd text why new) → (y : AsksOnce given b is cmd other whys left) → x.answer ≡ y.answer → LedAlike x.stop y.stop new left
 once-led given b is cmd text other why whys new left x y e =
-    leads-alike given (remaining_after given.plan is cmd y.answer) (follower_of given is cmd y.answer) x.stop y.stop new left
-    (subst (λ (a : Answer). Leads given (remaining_after given.plan is cmd a) (follower_of given is cmd a) x.stop new) e x.left) y.left
+    leads-alike given (remaining_after given.plan is cmd y.answer) (followers_of given is cmd y.answer) x.stop y.stop new left
+    (subst (λ (a : Answer). Leads given (remaining_after given.plan is cmd a) (followers_of given is cmd a) x.stop new) e x.left) y.left
 
 -- what is refused has nothing that follows
 refused-alone : (given : Setup) (is : List Input) (cmd : Cmd) (e : Refusal) (stop : Option Refusal) (new : List Input)
-    → Leads given (remaining_after given.plan is cmd (answers.Refused e)) (follower_of given is cmd (answers.Refused e)) stop new → stop ≡ None
+    → Leads given (remaining_after given.plan is cmd (answers.Refused e)) (followers_of given is cmd (answers.Refused e)) stop new → stop ≡ None
 refused-alone given is (Apply i) e stop new l = l.0
 refused-alone given is cmd e stop new l = l.0
 
@@ -63,7 +63,7 @@ some-none e h = cc
 
 -- memory ran out for what follows
 once-memory : (given : Setup) (is : List Input) (cmd : Cmd) (a : Answer) (stop : Option Refusal) (new : List Input)
-    → Leads given (remaining_after given.plan is cmd a) (follower_of given is cmd a) stop new → stop ≡ Some Memory → or_refusal (refusal_in a) stop ≡ Some Memory
+    → Leads given (remaining_after given.plan is cmd a) (followers_of given is cmd a) stop new → stop ≡ Some Memory → or_refusal (refusal_in a) stop ≡ Some Memory
 once-memory given is cmd (answers.Refused e) stop new l m = absurd (some-none Memory (sym m ∙ refused-alone given is cmd e stop new l))
 once-memory given is cmd answers.Took stop new l m = m
 once-memory given is cmd (answers.Undone k) stop new l m = m
@@ -81,7 +81,7 @@ unfolding once-text
 once-same given b is cmd text other why whys new left x y = elim (answers-alike given.plan is cmd x.answer y.answer x.right y.right) [
   | inl e ↦ elim (once-led given b is cmd text other why whys new left x y e) [
     | inl d ↦ inl (
-      x.line ∙ ap (λ (a : Answer). once-text given b is cmd a x.stop) e ∙ ap (λ (stop : Option Refusal). once-text given b is cmd y.answer stop) d.0 ∙ sym y.line,
+      x.line ∙ ap (λ (a : Answer). once-text given b is cmd a x.stop new) e ∙ (λ j. once-text given b is cmd y.answer (d.0 j) (d.1 j)) ∙ sym y.line,
       x.refused ∙ ap (λ (a : Answer). or_refusal (refusal_in a) x.stop) e ∙ ap (λ (stop : Option Refusal). or_refusal (refusal_in y.answer) stop) d.0 ∙ sym y.refused,
       d.1,
     )
@@ -109,9 +109,9 @@ more-same before rest more text other why whys new left a b (inl e) = inl (a ∙
 more-same before rest more text other why whys new left a b (inr m) = inr m
 
 -- the text of a tick that is taken
-tick-said : Setup → Besides → List Input → Option Refusal → List ℕ → List ℕ
-tick-said given b is stop rest =
-    (news b.tells given is (next_tick given is) ++ trail b.tells given (next_tick given is ∷ is) (follower given is (next_tick given is)) stop)
+tick-said : Setup → Besides → List Input → Option Refusal → List Input → List ℕ → List ℕ
+tick-said given b is stop mid rest =
+    (news b.tells given is (next_tick given is) ++ trail b.tells given (next_tick given is ∷ is) (followers given is (next_tick given is)) mid)
     ++ (with_feed (line_in given.is_wide (replay given.plan (next_tick given is ∷ is))) ++ (refused_after b.echo stop ++ rest))
 
 -- two answers to so many ticks are the same, where these inputs remain
@@ -133,10 +133,10 @@ ticked-same : (given : Setup) (b : Besides) (n : ℕ) (is : List Input) (text ot
     → MoreTicks given b n stop mid rest why new → MoreTicks given b n stops mids more whys left → Same text other why whys new left
 unfolding tick-said
 ticked-same given b n is text other rest more stop stops mid mids why whys new left on x y goes go =
-    elim (leads-alike given (next_tick given is ∷ is) (follower given is (next_tick given is)) stop stops mid mids x.leads y.leads) [
+    elim (leads-alike given (next_tick given is ∷ is) (followers given is (next_tick given is)) stop stops mid mids x.leads y.leads) [
       | inl d ↦ elim (ticks-on given b n stops mids (on mids) rest more why whys new left (subst₂ (λ (e : Option Refusal) (m : List Input). MoreTicks given b n e m rest why new) d.0 d.1 goes) go) [
         | inl e ↦ inl (
-          x.line ∙ ap (λ (s : Option Refusal). tick-said given b is s rest) d.0 ∙ ap (λ (l : List ℕ). tick-said given b is stops l) e.0 ∙ sym y.line,
+          x.line ∙ (λ j. tick-said given b is (d.0 j) (d.1 j) rest) ∙ ap (λ (l : List ℕ). tick-said given b is stops mids l) e.0 ∙ sym y.line,
           e.1,
           e.2,
         )
@@ -167,8 +167,8 @@ task-same given b is (tasks.Ask cmd) text other why whys new left x y = once-sam
 -- ## Ticks whose changes alone are printed
 
 -- the text of a tick whose changes alone are printed
-change-said : Setup → Besides → Row → List Input → List ℕ → Option Refusal → List ℕ
-change-said given b row is before stop = tick_text given.is_wide given.plan b row is before (trail b.tells given (inputs.Tick row ∷ is) (follower given is (inputs.Tick row)) stop)
+change-said : Setup → Besides → Row → List Input → List ℕ → List Input → List ℕ
+change-said given b row is before mid = tick_text given.is_wide given.plan b row is before (trail b.tells given (inputs.Tick row ∷ is) (followers given is (inputs.Tick row)) mid)
 
 abbrev ChangesSame : Setup → Besides → Row → ℕ → List Input → List ℕ → Bool → Type 0
 ChangesSame given b row n is before is_owed = (text other : List ℕ) (why whys : Option Refusal) (new left : List Input)
@@ -191,10 +191,10 @@ changed-same : (given : Setup) (b : Besides) (row : Row) (n : ℕ) (is : List In
     → MoreChanges given b row n line is_owed stop mid rest why new → MoreChanges given b row n line is_owed stops mids more whys left → Same text other why whys new left
 unfolding change-said
 changed-same given b row n is before line is_owed text other told tolds rest more stop stops mid mids why whys new left on x y told-so told-too goes go =
-    elim (leads-alike given (inputs.Tick row ∷ is) (follower given is (inputs.Tick row)) stop stops mid mids x.leads y.leads) [
+    elim (leads-alike given (inputs.Tick row ∷ is) (followers given is (inputs.Tick row)) stop stops mid mids x.leads y.leads) [
       | inl d ↦
           more-same told rest more text other why whys new left told-so
-          (told-too ∙ ap (λ (l : List ℕ). l ++ more) (y.told ∙ ap (λ (s : Option Refusal). change-said given b row is before s) (sym d.0) ∙ sym x.told))
+          (told-too ∙ ap (λ (l : List ℕ). l ++ more) (y.told ∙ ap (λ (m : List Input). change-said given b row is before m) (sym d.1) ∙ sym x.told))
           (changes-on given b row n line is_owed stops mids (on mids) rest more why whys new left (subst₂ (λ (e : Option Refusal) (m : List Input). MoreChanges given b row n line is_owed e m rest why new) d.0 d.1 goes) go)
       | inr memory ↦ elim memory [
         | inl m ↦ inr (inl (ends-by stop why (Changes given b row mid line is_owed n rest why new) (Ends b line is_owed stop mid rest why new) (λ ending. ending.1) m goes))

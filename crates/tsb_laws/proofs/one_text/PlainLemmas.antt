@@ -12,7 +12,7 @@ use Rattle.tsb_step.specs.tsb_types.declared.refusal.Refusal.{Refusal}
 use Rattle.tsb_step.specs.tsb_types.declared.refusal.Refusal.TheVariants.{Memory, NoSuchObject, OutOfRange, Busy, NotOwner, NotOpen, NotVerified, TooManyEdits, NoSuchPattern, NoSuchPreempt, TickLimit, InService}
 use Rattle.tsb_step.specs.tsb_types.Lists.{run_from}
 use Rattle.tsb_step.specs.tsb_rules.declared.rules.Rule.{Rule}
-use Rattle.tsb_step.specs.tsb_rules.declared.rules.Rule.TheVariants.{K1, K2, K3, K4, K5, K6, K7, K8, K9, K10, K11, K12, K13, K14, K15, K16, K17, K18, K19, K20, K21, K22, K23, K24, K25, K26, K27}
+use Rattle.tsb_step.specs.tsb_rules.declared.rules.Rule.TheVariants.{K1, K2, K3, K4, K5, K6, K7, K8, K9, K10, K11, K12, K13, K14, K15, K16, K17, K18, K19, K20, K21, K22, K23, K24, K25, K26, K27, K28, K29}
 use Rattle.tsb_plan_text.specs.RuleLines.{rule_line}
 use Rattle.tsb_step.specs.tsb_heads.Heads.{Heads}
 use Rattle.tsb_step.specs.declared.inputs.Input.{Input}
@@ -63,6 +63,7 @@ letter-plain aspects.Red = refl
 letter-plain aspects.Yellow = refl
 letter-plain aspects.Green = refl
 letter-plain aspects.FlashingRed = refl
+letter-plain aspects.FlashingYellow = refl
 
 pedestrian-plain : (a : PedestrianAspect) → (pedestrian_letter a == 10) ≡ false
 pedestrian-plain pedestrian_aspects.Dark = refl
@@ -181,6 +182,8 @@ rule-plain K24 = written (rule_line K24) refl refl
 rule-plain K25 = written (rule_line K25) refl refl
 rule-plain K26 = written (rule_line K26) refl refl
 rule-plain K27 = written (rule_line K27) refl refl
+rule-plain K28 = written (rule_line K28) refl refl
+rule-plain K29 = written (rule_line K29) refl refl
 
 verified-plain : (found : Option Rule) → IsPlain (verified_line found)
 verified-plain None = written (codes "ok") refl refl

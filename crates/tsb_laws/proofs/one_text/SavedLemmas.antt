@@ -1,7 +1,7 @@
 -- Commands that are taken are answered by a session.
 use Rattle.std.proofs.Common.{ℕ, zero, suc, false, List, [], ◌∷◌, ◌++◌, None, refl, inl}
 use Rattle.tsb_command_text.specs.declared.command.Command.{Command}
-use Rattle.tsb_command_text.specs.declared.command.Command.TheVariants.{Step, Begin, Set, Verify, Commit, Abort, Pattern, Preempt, Fault, Reset, Clock}
+use Rattle.tsb_command_text.specs.declared.command.Command.TheVariants.{Step, Begin, Set, Verify, Commit, Abort, Pattern, Preempt, Omit, Fault, Reset, Clock}
 use Rattle.tsb_dialog.specs.Said.{with_feed}
 use Rattle.tsb_log_text.specs.declared.log.LogRow.{LogRow}
 use Rattle.tsb_live_text.specs.saved.Taken.{TakeAll, Takes, TakesInput, TakesTicks, saved_commands}
@@ -44,6 +44,7 @@ command-answered plan log (Commit station) is left t = input-answered plan log (
 command-answered plan log (Abort station) is left t = input-answered plan log (inputs.Abort station) is left t
 command-answered plan log (Pattern n) is left t = input-answered plan log (inputs.Pattern n) is left t
 command-answered plan log (Preempt n on) is left t = input-answered plan log (inputs.Switch n on) is left t
+command-answered plan log (Omit list) is left t = input-answered plan log (inputs.Omit list) is left t
 command-answered plan log (Fault lamp) is left t = input-answered plan log (inputs.Fault lamp) is left t
 command-answered plan log Reset is left t = input-answered plan log inputs.Reset is left t
 command-answered plan log (Clock time) is left t = input-answered plan log (inputs.Clock time) is left t

@@ -15,7 +15,7 @@ use Rattle.tsb_text.specs.tsb_command_text.declared.command.Reading.{Reading}
 use Rattle.tsb_text.specs.tsb_command_text.declared.command.Reading.TheVariants.{Skip, Bad, Lines, Do}
 use Rattle.tsb_text.specs.tsb_command_text.Readings.{reading}
 use Rattle.tsb_text.specs.tsb_lines.Lines.{lines_of}
-use Rattle.tsb_text.specs.Answers.{Setup, Leads, GoesUnless, Asked, Ticked, Stopped, Steps, Answers, follower, follower_of, told, next_tick, refused_after, refused_line, line_in}
+use Rattle.tsb_text.specs.Answers.{Setup, Leads, GoesUnless, Asked, Ticked, Stopped, Steps, Answers, followers, followers_of, told, next_tick, refused_after, refused_line, line_in}
 use Rattle.tsb_text.specs.Ended.{EndsLine, EndedSo}
 use Rattle.tsb_text.specs.Replies.{laid}
 use Rattle.tsb_text.specs.Text.{GoesOn, Says, IsAnswered, IsText}
@@ -51,8 +51,8 @@ asked-memory given is cmd text other left x memory =
 asked-led : (given : Setup) (is : List Input) (cmd : Cmd) (text other : List ℕ) (left others : List Input) (x : Asked given is cmd text left) (y : Asked given is cmd other others) →
     x.answer ≡ y.answer → LedAlike x.stop y.stop left others
 asked-led given is cmd text other left others x y same =
-    leads-alike given (remaining_after given.plan is cmd y.answer) (follower_of given is cmd y.answer) x.stop y.stop left others
-    (subst (λ (a : Answer). Leads given (remaining_after given.plan is cmd a) (follower_of given is cmd a) x.stop left) same x.left) y.left
+    leads-alike given (remaining_after given.plan is cmd y.answer) (followers_of given is cmd y.answer) x.stop y.stop left others
+    (subst (λ (a : Answer). Leads given (remaining_after given.plan is cmd a) (followers_of given is cmd a) x.stop left) same x.left) y.left
 
 asked-same : (given : Setup) (is : List Input) (cmd : Cmd) (text other : List ℕ) (left others : List Input) (x : Asked given is cmd text left) (y : Asked given is cmd other others) →
     x.answer ≡ y.answer → AreAnswersAlike text other left others
@@ -166,7 +166,7 @@ ticked-ticked : (given : Setup) (n : ℕ) (is : List Input) (text other rest mor
     → GoesOnFrom given n stop mid rest left → GoesOnFrom given n stops mids more others → AreAnswersAlike text other left others
 unfolding AreAnswersAlike
 ticked-ticked given n is text other rest more stop stops mid mids left others on x y goes go =
-    elim (leads-alike given (next_tick given is ∷ is) (follower given is (next_tick given is)) stop stops mid mids x.leads y.leads) [
+    elim (leads-alike given (next_tick given is ∷ is) (followers given is (next_tick given is)) stop stops mid mids x.leads y.leads) [
       | inl led ↦ ticked-same given n is text other rest more stops mids left others (on mids)
           (subst₂ (λ (e : Option Refusal) (m : List Input). Ticked given is text rest e m) led.0 led.1 x) y
           (subst₂ (λ (e : Option Refusal) (m : List Input). GoesOnFrom given n e m rest left) led.0 led.1 goes) go

@@ -17,7 +17,7 @@ use Rattle.tsb_text.specs.tsb_command_text.declared.command.Reading.{Reading}
 use Rattle.tsb_text.specs.tsb_command_text.declared.command.Reading.TheVariants.{Skip, Bad, Lines, Do}
 use Rattle.tsb_text.specs.tsb_command_text.Readings.{reading}
 use Rattle.tsb_text.specs.tsb_lines.Lines.{lines_of}
-use Rattle.tsb_text.specs.Answers.{Setup, Leads, GoesUnless, Asked, Steps, Answers, follower, follower_of, told, next_tick, refused_after, refused_line, line_in}
+use Rattle.tsb_text.specs.Answers.{Setup, Leads, GoesUnless, Asked, Steps, Answers, followers, followers_of, told, next_tick, refused_after, refused_line, line_in}
 use Rattle.tsb_text.specs.Replies.{laid}
 use Rattle.tsb_text.specs.Text.{GoesOn, Says, IsAnswered}
 use Rattle.tsb_text.specs.Written.{with_feed}
@@ -63,16 +63,18 @@ right-input given is i = at (verdict (replay given.plan is) i) refl
     })
 
 -- what follows is taken, or refused for another reason than that memory ran out
-record IsLed (given : Setup) (is : List Input) (next : Option Input) : Type 0 where
+record IsLed (given : Setup) (is next : List Input) : Type 0 where
   stop : Option Refusal
   left : List Input
   leads : Leads given is next stop left
   tells : (rest : List ℕ) → tells_memory (refused_after [] stop ++ rest) ≡ tells_memory rest
 
-led : (given : Setup) (is : List Input) (next : Option Input) → IsLed given is next
-led given is None = record { stop = None; left = is; leads = (refl, refl); tells = λ rest. refl }
-led given is (Some i) = elim (right-input given is i) [
-  | inl took ↦ record { stop = None; left = i ∷ is; leads = inl (took, refl, refl); tells = λ rest. refl }
+led : (given : Setup) (is next : List Input) → IsLed given is next
+led given is [] = record { stop = None; left = is; leads = (refl, refl); tells = λ rest. refl }
+led given is (i ∷ next) = elim (right-input given is i) [
+  | inl took ↦
+      (let later : IsLed given (i ∷ is) next = led given (i ∷ is) next in
+      record { stop = later.stop; left = later.left; leads = inl (took, later.leads); tells = later.tells })
   | inr refused ↦ record {
     stop = Some refused.refusal;
     left = is;
@@ -86,7 +88,7 @@ led given is (Some i) = elim (right-input given is i) [
 asked : (given : Setup) (is : List Input) (cmd : Cmd) (a : Answer) → IsRight given.plan is cmd a →
     IsPlain (told given.is_wide cmd a (replay given.plan (remaining_after given.plan is cmd a))) → PlainAsked given is cmd
 asked given is cmd a right plain =
-    let next : IsLed given (remaining_after given.plan is cmd a) (follower_of given is cmd a) = led given (remaining_after given.plan is cmd a) (follower_of given is cmd a) in
+    let next : IsLed given (remaining_after given.plan is cmd a) (followers_of given is cmd a) = led given (remaining_after given.plan is cmd a) (followers_of given is cmd a) in
     let line : List ℕ = told given.is_wide cmd a (replay given.plan (remaining_after given.plan is cmd a)) in
     record {
       text = with_feed line ++ refused_after [] next.stop;
@@ -145,7 +147,7 @@ goes-told given n (Some e) left later = record { text = []; left = left; answers
 
 tick-told : (given : Setup) (is : List Input) (n : ℕ) → IsRight given.plan is (asks.Apply (next_tick given is)) Took → ((new : List Input) → PlainSteps given new n) → PlainSteps given is (suc n)
 tick-told given is n took on =
-    let next : IsLed given (next_tick given is ∷ is) (follower given is (next_tick given is)) = led given (next_tick given is ∷ is) (follower given is (next_tick given is)) in
+    let next : IsLed given (next_tick given is ∷ is) (followers given is (next_tick given is)) = led given (next_tick given is ∷ is) (followers given is (next_tick given is)) in
     let later : Plain (λ text new. GoesUnless next.stop (Steps given next.left n text new) ((text ≡ []) × (new ≡ next.left))) = goes-told given n next.stop next.left (on next.left) in
     let line : List ℕ = line_in given.is_wide (replay given.plan (next_tick given is ∷ is)) in
     record {

@@ -10,11 +10,11 @@ use Rattle.tsb_step.specs.State.{State}
 use Rattle.tsb_step.specs.Runs.{replay}
 use Rattle.tsb_laws.specs.Differing.{DifferIn, IsSameBut}
 use Rattle.tsb_laws.specs.PlainStep as plain
-use Rattle.tsb_laws.specs.WithoutOptions.{is_of_options, is_of_schedule, is_of_version_1, HasEachAtZero, SetNoOption, SetNoOverlapOption}
+use Rattle.tsb_laws.specs.WithoutOptions.{is_of_options, is_of_schedule, is_of_card, is_of_version_1, HasEachAtZero, SetNoOption, SetNoOverlapOption}
 use Rattle.tsb_laws.proofs.options.PlainRunLemmas.{runs_agree}
 use Rattle.tsb_laws.proofs.options.ReadRunLemmas.{reads_none}
 
-pub all_listed : (o : Object) → (is_of_options o || is_of_schedule o) ≡ not (is_of_version_1 (since o))
+pub all_listed : (o : Object) → (is_of_options o || (is_of_schedule o || is_of_card o)) ≡ not (is_of_version_1 (since o))
 all_listed PhaseDynamicMaxStep = refl
 all_listed o = refl
 

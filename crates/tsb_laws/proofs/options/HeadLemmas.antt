@@ -1,20 +1,12 @@
--- What heads and the monitor make of a plan does not see the options.
+-- What heads of phases make of a plan does not see the options.
 use Rattle.std.proofs.Common.{◌≡◌, ℕ, refl}
 use Rattle.tsb_step.specs.tsb_plan.declared.object.Object.{Object}
 use Rattle.tsb_step.specs.tsb_plan.Plan.{Plan}
-use Rattle.tsb_step.specs.tsb_heads.Monitoring.{conflict_of, conflict, green_to_red}
+use Rattle.tsb_step.specs.tsb_heads.Monitoring.{green_to_red}
 use Rattle.tsb_step.specs.tsb_heads.Overlaps.{is_on_yellow}
 use Rattle.tsb_laws.proofs.options.DifferLemmas.{with_options}
 
 module _ (plan : Plan) (v : Object → ℕ → ℕ) where
-  pub conflict_of-same : conflict_of (with_options plan v) ≡ conflict_of plan
-  unfolding conflict_of
-  conflict_of-same = refl
-
-  pub conflict-same : conflict (with_options plan v) ≡ conflict plan
-  unfolding conflict conflict_of
-  conflict-same = refl
-
   pub green_to_red-same : green_to_red (with_options plan v) ≡ green_to_red plan
   unfolding green_to_red
   green_to_red-same = refl

@@ -1,5 +1,5 @@
--- What reads options does not see the correction limit: rules, when a green may end, how a dynamic maximum moves, and
--- overlaps.
+-- What reads options does not see the correction limit: rules, when a green may end, how a dynamic maximum moves,
+-- overlaps and the monitor.
 use Rattle.std.proofs.Common.{◌≡◌, ℕ, ◌+◌, ◌-◌, Bool, ◌&&◌, ◌||◌, if◌then◌else◌, min, max, Option, Some, None, refl, ap, ap₂, ◌∙◌}
 use Rattle.std.proofs.Math.Path.{fun_ext}
 use Rattle.std.specs.List.{list_any}
@@ -13,9 +13,11 @@ use Rattle.tsb_step.specs.tsb_plan.Parts.{split_of, sequence_of, leads_and_lags}
 use Rattle.tsb_step.specs.tsb_plan.Plan.{Plan, dynamic_maximum_limit, dynamic_maximum_step}
 use Rattle.tsb_step.specs.tsb_rules.declared.rules.Rule.TheVariants.{K14, K15, K16, K17, K18, K19, K20}
 use Rattle.tsb_step.specs.tsb_rules.PatternRules.{some_and, each_pattern, patterns_are_whole, splits_hold_phases}
-use Rattle.tsb_step.specs.tsb_rules.Rules.{unless, included_phases_are_enabled, preempts_are_concurrent, preempts_dwell, broken_by_extensions, broken_by_parts, first_broken}
+use Rattle.tsb_step.specs.tsb_rules.Rules.{unless, included_phases_are_enabled, preempts_are_concurrent, preempts_dwell, broken_by_extensions, broken_by_overlaps, broken_by_parts, first_broken}
 use Rattle.tsb_step.specs.tsb_heads.Displays.{ordered}
 use Rattle.tsb_step.specs.tsb_heads.Heads.{Shown}
+use Rattle.tsb_step.specs.tsb_heads.Monitoring.{has_green_arrow, conflict_of, conflict}
+use Rattle.tsb_step.specs.tsb_overlap.Overlap.{run_on, is_held, may_flash, settled, next}
 use Rattle.tsb_step.specs.tsb_heads.Overlaps.{has_green_modifier, has_yellow_modifier, is_kept_green, is_on_last_yellow, lasts, some_lasts, overlap_head}
 use Rattle.tsb_step.specs.tsb_phase.declared.ending.Ending.{Ending}
 use Rattle.tsb_step.specs.tsb_phase.declared.ending.Ending.TheVariants.{MaxOut, GapOut}
@@ -33,6 +35,10 @@ module _ (plan : Plan) (v : Object → ℕ → ℕ) where
   broken_by_extensions-same : broken_by_extensions (with_limit plan v) ≡ broken_by_extensions plan
   unfolding broken_by_extensions
   broken_by_extensions-same = refl
+
+  broken_by_overlaps-same : broken_by_overlaps (with_limit plan v) ≡ broken_by_overlaps plan
+  unfolding broken_by_overlaps
+  broken_by_overlaps-same = refl
 
   broken_by_parts-same : broken_by_parts (with_limit plan v) ≡ broken_by_parts plan
   unfolding broken_by_parts
@@ -54,6 +60,7 @@ module _ (plan : Plan) (v : Object → ℕ → ℕ) where
   first_broken-same =
       rw (
         broken_by_extensions-same,
+        broken_by_overlaps-same,
         broken_by_parts-same,
         broken_by_phases-same plan (only_limit plan v),
         broken_by_rings-same plan (only_limit plan v),
@@ -150,3 +157,17 @@ module _ (plan : Plan) (v : Object → ℕ → ℕ) where
   pub some_lasts-same : some_lasts (with_limit plan v) ≡ some_lasts plan
   unfolding some_lasts
   some_lasts-same = fun_ext (λ s. ap (λ (f : Shown → ℕ → Bool). list_any (f s) (run_from 1 plan.counts.overlaps)) lasts-same)
+
+  pub conflict-same : conflict (with_limit plan v) ≡ conflict plan
+  unfolding conflict conflict_of has_green_arrow
+  conflict-same = refl
+
+  -- ## Overlaps with intervals of their own
+
+  pub is_held-same : is_held (with_limit plan v) ≡ is_held plan
+  unfolding is_held run_on
+  is_held-same = refl
+
+  pub next-same : next (with_limit plan v) ≡ next plan
+  unfolding next run_on settled may_flash is_kept_green
+  next-same = refl

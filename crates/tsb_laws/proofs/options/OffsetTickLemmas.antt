@@ -12,8 +12,9 @@ use Rattle.tsb_step.specs.tsb_plan.Plan.{Plan, maximum, dynamic_maximum_limit, d
 use Rattle.tsb_step.specs.tsb_calls.Callable.{is_callable, has_conflict}
 use Rattle.tsb_step.specs.tsb_calls.Memories.{actuations, counted, has_button, has_output, pedestrian_memory, vehicle_memory}
 use Rattle.tsb_step.specs.tsb_calls.Settled as settled
-use Rattle.tsb_step.specs.tsb_heads.Monitoring.{conflict, conflict_of, green_to_red}
+use Rattle.tsb_step.specs.tsb_heads.Monitoring.{conflict, conflict_of, green_to_red, has_green_arrow}
 use Rattle.tsb_step.specs.tsb_heads.Overlaps.{has_green_modifier, has_yellow_modifier, is_kept_green, is_on_last_yellow, is_on_yellow, lasts, some_lasts}
+use Rattle.tsb_step.specs.tsb_overlap.Overlap as overlaps
 use Rattle.tsb_step.specs.tsb_phase.declared.ending.Ending.{Ending}
 use Rattle.tsb_step.specs.tsb_phase.declared.ending.Ending.TheVariants.{MaxOut, GapOut}
 use Rattle.tsb_step.specs.tsb_phase.DynamicMaximum.{is_dynamic, is_same, effective_maximum, maximum_in_use, stepped, running_maximum_after, counts_endings}
@@ -35,21 +36,21 @@ use Rattle.tsb_step.specs.tsb_ring.Next as rings_next
 use Rattle.tsb_step.specs.tsb_ring.Rings.{serving}
 use Rattle.tsb_step.specs.tsb_ring.Rings as rings
 use Rattle.tsb_step.specs.tsb_ring.Wants.{fits, pick, pick_of_ring_1, want, want_of}
-use Rattle.tsb_step.specs.Signs.{is_lasting, display, field, watched}
+use Rattle.tsb_step.specs.Signs.{is_lasting, shown, display, field, watched}
 use Rattle.tsb_step.specs.State.{State}
 use Rattle.tsb_step.specs.Step.{ticked}
-use Rattle.tsb_step.specs.Tick.{new_detectors, new_service, service, target, forced, recycle, calls_given, phases_given, phase_read, ready, gapped, rings_given, moves, moved, done, after_moves, gives_up, new_rings, next}
+use Rattle.tsb_step.specs.Tick.{new_detectors, new_service, service, target, forced, recycle, calls_given, phases_given, phase_read, ready, gapped, held, rings_given, moves, moved, done, after_moves, gives_up, new_rings, after_rings, overlaps_given, next}
 use Rattle.tsb_laws.specs.Differing.{with_others}
 use Rattle.tsb_laws.specs.ConvertedOffsets.{is_of_offsets}
 
 -- what a tick opens beside its own words and those of heads
 unfoldable opened : Unit {0}
-unfolding actuations counted has_button has_output pedestrian_memory vehicle_memory is_callable has_conflict cars_waiting gap initial reduction_timer pedestrian_now is_over red_revert_passed beginning dwell_ends requesting preempts.new_service all_green begins committed entry target_side clears completes ends new_commitment new_crossing new_last new_side starting serving fits pick pick_of_ring_1 want want_of given_up ring_moves.moves rings_next.next
+unfolding actuations counted has_button has_output pedestrian_memory vehicle_memory is_callable has_conflict cars_waiting gap initial reduction_timer pedestrian_now is_over red_revert_passed beginning dwell_ends requesting preempts.new_service all_green begins committed entry target_side clears completes ends new_commitment new_crossing new_last new_side starting serving fits pick pick_of_ring_1 want want_of given_up ring_moves.moves rings_next.next overlaps.is_held overlaps.may_flash overlaps.run_on overlaps.settled overlaps.next
 opened = tt
 
 -- what heads and the monitor open
 unfoldable opened_heads : Unit {0}
-unfolding conflict conflict_of green_to_red is_kept_green is_on_yellow is_on_last_yellow has_green_modifier has_yellow_modifier lasts some_lasts
+unfolding conflict conflict_of green_to_red has_green_arrow is_kept_green is_on_yellow is_on_last_yellow has_green_modifier has_yellow_modifier lasts some_lasts
 opened_heads = tt
 
 -- the plan with other offsets, or with these counted to something else
@@ -157,7 +158,7 @@ module _ (s : State) (row : Row) (v : Object → ℕ → ℕ) (forces : (p : ℕ
       ∙ ap (λ (g : phase.Given). timing.is_ready s.plan g p (phase_read s p)) phases_given-same
 
   rings_given-same : rings_given (swapped s v) row ≡ rings_given s row
-  unfolding opened rings_given new_detectors new_service
+  unfolding opened rings_given new_detectors new_service held
   rings_given-same = ap (λ (f : ℕ → Bool). record (rings_given s row) { ready = clipped f }) (fun_ext (λ p. ready-same p))
 
   moves-same : moves (swapped s v) row ≡ moves s row
@@ -208,8 +209,15 @@ module _ (s : State) (row : Row) (v : Object → ℕ → ℕ) (forces : (p : ℕ
   new_rings-same =
       ap₂ (λ (b : Bool) (a : State). if b then given_up s.plan (target s row) a.rings else a.rings) gives_up-same after_moves-same
 
+  after_rings-same : after_rings (swapped s v) row ≡ swapped (after_rings s row) v
+  after_rings-same = ap₂ (λ (a : State) (r : rings.State). record a { rings = r }) after_moves-same new_rings-same
+
   next-same : next (swapped s v) row ≡ swapped (next s row) v
-  next-same = ap₂ (λ (a : State) (r : rings.State). record a { rings = r }) after_moves-same new_rings-same
+  unfolding opened opened_heads new_service
+  next-same =
+      ap (λ (a : State). record a {
+        overlaps = overlaps.next s.plan (record (overlaps_given s row) { shown = shown a; timer = λ p. (a.phases p).timer }) s.overlaps;
+      }) after_rings-same
 
   pub ticked-same : ticked row (swapped s v) ≡ swapped (ticked row s) v
   ticked-same = go (is_some s.trip)

@@ -4,6 +4,7 @@ use Rattle.tsb_step.specs.tsb_types.declared.lamp.Lamp.{Lamp}
 use Rattle.tsb_step.specs.tsb_types.declared.row.Row.{Row}
 use Rattle.tsb_step.specs.tsb_plan.Plan.{Plan}
 use Rattle.tsb_step.specs.tsb_rules.declared.rules.Rule.{Rule}
+use Rattle.tsb_step.specs.tsb_heads.declared.monitor.Trip.{Trip}
 use Rattle.tsb_step.specs.tsb_heads.Displays.{flashing, laid_over}
 use Rattle.tsb_step.specs.tsb_heads.Heads.{Heads}
 use Rattle.tsb_step.specs.tsb_heads.Monitoring as monitor
@@ -26,7 +27,7 @@ use Rattle.tsb_laws.specs.Options.{OptionsOff}
 use Rattle.tsb_laws.specs.PlainStep as plain
 use Rattle.tsb_laws.specs.WithoutOptions.{HasEachAtZero, SetNoOption, ShowsTheSameWithoutOptions}
 use Rattle.tsb_laws.proofs.operation.pattern.OptionsOffLemmas.{options-off}
-use Rattle.tsb_laws.proofs.options.PlainPartLemmas.{IsStill, rules_agree, ordered_agrees}
+use Rattle.tsb_laws.proofs.options.PlainPartLemmas.{IsStill, rules_agree, ordered_agrees, judges_agree}
 use Rattle.tsb_laws.proofs.options.PlainTickLemmas.{AreStill, local_agrees, next_same}
 use Rattle.tsb_laws.proofs.options.SilentLemmas.{IsSilent, edits_silent, run_silent}
 
@@ -46,6 +47,8 @@ watched_agree before after old new =
     ap₂ (λ (x y : Heads). record after {
       trip = option_map (λ cause. record { cause = cause; tick = after.now }) (monitor.judge after.plan x y);
     }) (fields_agree before old) (fields_agree after new)
+    ∙ ap (λ (t : Option Trip). record after { trip = option_map (λ cause. record { cause = cause; tick = after.now }) t })
+    (judges_agree after.plan new (plain.field before) (plain.field after))
 
 -- ## Each input
 
@@ -96,27 +99,33 @@ as_still x y running last still = record { running_maximum = running ∙ still.r
 
 still_step : (s : State) (i : Input) → AreStill s → AreStill (plain.step s i)
 unfolding plain.step plain.watched
-still_step s (inputs.Tick row) still p = go (is_some s.trip)
+still_step s (inputs.Tick row) still = go (is_some s.trip)
   where
-    go : (b : Bool) → IsStill ((if b then record s { now = s.now + 1 } else plain.watched s (plain.next s row)).phases p)
-    go true = still p
-    go false = as_still (s.phases p) ((plain.next s row).phases p) refl refl (still p)
-still_step s (inputs.Pattern n) still p = as_still (s.phases p) (unforced (s.phases p)) refl refl (still p)
-still_step s (inputs.Fault lamp) still p = go (is_some s.trip)
+    go : (b : Bool) → AreStill (if b then record s { now = s.now + 1 } else plain.watched s (plain.next s row))
+    go true = record { phases = still.phases; overlaps = still.overlaps }
+    go false = record {
+      phases = λ p. as_still (s.phases p) ((plain.next s row).phases p) refl refl (still.phases p);
+      overlaps = still.overlaps;
+    }
+still_step s (inputs.Pattern n) still = record {
+  phases = λ p. as_still (s.phases p) (unforced (s.phases p)) refl refl (still.phases p);
+  overlaps = still.overlaps;
+}
+still_step s (inputs.Fault lamp) still = go (is_some s.trip)
   where
-    go : (b : Bool) → IsStill ((if b then record s { lamp = lamp } else plain.watched s (record s { lamp = lamp })).phases p)
-    go true = still p
-    go false = still p
-still_step s inputs.Reset still p = go (is_some s.trip)
+    go : (b : Bool) → AreStill (if b then record s { lamp = lamp } else plain.watched s (record s { lamp = lamp }))
+    go true = record { phases = still.phases; overlaps = still.overlaps }
+    go false = record { phases = still.phases; overlaps = still.overlaps }
+still_step s inputs.Reset still = go (is_some s.trip)
   where
-    go : (b : Bool) → IsStill ((if b then restarted s else s).phases p)
-    go true = of_power_up
-    go false = still p
-still_step s i still p = still p
+    go : (b : Bool) → AreStill (if b then restarted s else s)
+    go true = record { phases = λ p. of_power_up; overlaps = λ o. refl }
+    go false = still
+still_step s i still = record { phases = still.phases; overlaps = still.overlaps }
 
 still_run : (plan : Plan) (is : List Input) → AreStill (plain.replay plan is)
-still_run plan [] p = of_power_up
-still_run plan (i ∷ is) p = still_step (plain.replay plan is) i (still_run plan is) p
+still_run plan [] = record { phases = λ p. of_power_up; overlaps = λ o. refl }
+still_run plan (i ∷ is) = still_step (plain.replay plan is) i (still_run plan is)
 
 -- ## Runs
 

@@ -1,5 +1,5 @@
 -- Where the options are 0, a tick is that of the controller without options.
-use Rattle.std.proofs.Common.{◌≡◌, ℕ, ◌+◌, ◌-◌, Bool, true, false, not, ◌&&◌, ◌||◌, if◌then◌else◌, Option, Some, None, refl, ap, ap₂, ◌∙◌}
+use Rattle.std.proofs.Common.{◌≡◌, ℕ, ◌+◌, ◌-◌, Bool, true, false, not, ◌&&◌, ◌||◌, if◌then◌else◌, Option, Some, None, is_some, refl, sym, ap, ap₂, ◌∙◌}
 use Rattle.std.proofs.Math.Path.{fun_ext}
 use Rattle.std.proofs.lemmas.Bool.{and_right}
 use Rattle.tsb_step.specs.tsb_types.declared.flow.Moves.{Moves}
@@ -22,19 +22,23 @@ use Rattle.tsb_step.specs.tsb_ring.GivenUp.{given_up}
 use Rattle.tsb_step.specs.tsb_ring.Moves as ring_moves
 use Rattle.tsb_step.specs.tsb_ring.Next as rings_next
 use Rattle.tsb_step.specs.tsb_ring.Rings as rings
+use Rattle.tsb_step.specs.tsb_overlap.Overlap as overlaps
+use Rattle.tsb_step.specs.tsb_overlap.Overlap.{Overlap}
 use Rattle.tsb_step.specs.State.{State}
 use Rattle.tsb_step.specs.Signs.{is_lasting}
 use Rattle.tsb_step.specs.Tick as tick
+use Rattle.tsb_overlap.proofs.OwnLemmas.{untimed-stays, untimed-free}
 use Rattle.tsb_laws.specs.Options.{OptionsOff}
 use Rattle.tsb_laws.specs.PlainParts as parts
 use Rattle.tsb_laws.specs.PlainStep as plain
 use Rattle.tsb_laws.specs.WithoutOptions.{HasEachAtZero}
 use Rattle.tsb_laws.proofs.operation.pattern.OptionsOffLemmas.{options-off}
-use Rattle.tsb_laws.proofs.options.PlainPartLemmas.{IsStill, ready_agrees, next_agrees}
+use Rattle.tsb_laws.proofs.options.PlainPartLemmas.{IsStill, ready_agrees, next_agrees, untimed}
 
--- each phase has no dynamic maximum, nor what one keeps
-abbrev pub AreStill : State → Type 0
-AreStill s = (p : ℕ) → IsStill (s.phases p)
+-- each phase has no dynamic maximum, nor what one keeps, and each overlap is as at power-up
+pub record AreStill (s : State) : Type 0 where
+  pub phases : (p : ℕ) → IsStill (s.phases p)
+  pub overlaps : (o : ℕ) → s.overlaps o ≡ overlaps.at_power_up
 
 -- ## The local counter
 
@@ -80,10 +84,25 @@ ready_same s row none p =
     (ap (λ (g : phase.Given). timing.is_ready s.plan g p (tick.phase_read s p)) (given_agrees s row (options-off s.plan none.options))
     ∙ ready_agrees s.plan none (plain.phases_given s row) p (tick.phase_read s p) (never_recycled s row p))
 
+-- no overlap holds a phase
+unheld : (s : State) (row : Row) → HasEachAtZero s.plan → (p : ℕ) → tick.held s row p ≡ false
+unfolding tick.held
+unheld s row none p = untimed-free s.plan (is_some (tick.service s row)) s.overlaps p (untimed s.plan none)
+
+over_same : (s : State) (row : Row) → HasEachAtZero s.plan → (p : ℕ) → clipped (tick.lets_go s row) p ≡ clipped (tick.over s) p
+over_same s row none p =
+    ap (λ (b : Bool). is_phase p && (tick.over s p && not b)) (unheld s row none p)
+    ∙ ap (λ (b : Bool). is_phase p && b) (whole (tick.over s p))
+  where
+    whole : (b : Bool) → (b && true) ≡ b
+    whole true = refl
+    whole false = refl
+
 rings_same : (s : State) (row : Row) → HasEachAtZero s.plan → tick.rings_given s row ≡ plain.rings_given s row
 unfolding tick.rings_given plain.rings_given
 rings_same s row none =
-    ap (λ (f : ℕ → Bool). record (plain.rings_given s row) { ready = f }) (fun_ext (λ p. ready_same s row none p))
+    ap₂ (λ (f g : ℕ → Bool). record (plain.rings_given s row) { ready = f; over = g })
+    (fun_ext (λ p. ready_same s row none p)) (fun_ext (λ p. over_same s row none p))
 
 moves_same : (s : State) (row : Row) → HasEachAtZero s.plan → tick.moves s row ≡ plain.moves s row
 unfolding tick.moves plain.moves
@@ -145,7 +164,7 @@ after_plain s row none still =
       memories = record (parts.memories_after s.plan (tick.calls_given s row) (plain.done s row) s.memories) { pedestrian = f };
       phases = g;
     }) (fun_ext (λ p. memory_same s row p))
-    (fun_ext (λ p. next_agrees s.plan none (plain.phases_given s row) (plain.moved s row) p (s.phases p) (never_recycled s row p) (still p)))
+    (fun_ext (λ p. next_agrees s.plan none (plain.phases_given s row) (plain.moved s row) p (s.phases p) (never_recycled s row p) (still.phases p)))
 
 after_same : (s : State) (row : Row) → HasEachAtZero s.plan → AreStill s → tick.after_moves s row ≡ plain.next s row
 after_same s row none still =
@@ -166,5 +185,11 @@ kept s row off =
 
 pub next_same : (s : State) (row : Row) → HasEachAtZero s.plan → AreStill s → tick.next s row ≡ plain.next s row
 next_same s row none still =
-    ap (λ (r : rings.State). record (tick.after_moves s row) { rings = r }) (kept s row (options-off s.plan none.options))
+    ap₂ (λ (r : rings.State) (f : ℕ → Overlap). record (tick.after_moves s row) { rings = r; overlaps = f })
+    (kept s row (options-off s.plan none.options)) (fun_ext (λ o. overlap_stays o))
     ∙ after_same s row none still
+  where
+    overlap_stays : (o : ℕ) → overlaps.next s.plan (tick.overlaps_given s row) s.overlaps o ≡ s.overlaps o
+    overlap_stays o =
+        untimed-stays s.plan (tick.overlaps_given s row) s.overlaps o (untimed s.plan none o)
+        ∙ ap overlaps.as_read (still.overlaps o) ∙ sym (still.overlaps o)

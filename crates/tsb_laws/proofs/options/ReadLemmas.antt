@@ -40,7 +40,6 @@ use Rattle.tsb_laws.proofs.options.DifferLemmas.{with_options}
 use Rattle.tsb_laws.proofs.options.CallLemmas.{counted-same, pedestrian_memory-same, vehicle_memory-same}
 use Rattle.tsb_laws.proofs.options.FoundLemmas.{swapped, is_gapped-same, next_preempts-same, new_detectors-same, new_service-same, service-same, target-same, must_end-same, calls_given-same, output-same, callable-same, conflict-same, walk_call-same, count-same, over-same, reverted-same}
 use Rattle.tsb_laws.proofs.options.HeadLemmas.{is_on_yellow-same, green_to_red-same}
-use Rattle.tsb_laws.proofs.options.HeadLemmas as head
 use Rattle.tsb_laws.proofs.options.PhaseLemmas.{gap-same, initial-same, reduction_timer-same, maximum-same}
 use Rattle.tsb_laws.proofs.options.RingLemmas as ring
 use Rattle.tsb_laws.proofs.options.RuleLemmas.{fills-same, agree-same, force_off-same, broken_by_phases-same, broken_by_rings-same, broken_by_schedule-same}
@@ -105,6 +104,10 @@ module _ (plan : Plan) (v : Object → ℕ → ℕ) where
   ordered-same : (s : Shown) → parts.ordered (with_options plan v) s ≡ parts.ordered plan s
   ordered-same s = ap (λ (f : ℕ → Aspect). record (parts.ordered plan s) { overlap = f }) (fun_ext (λ o. overlap_head-same s o))
 
+  heads_conflict-same : parts.conflict (with_options plan v) ≡ parts.conflict plan
+  unfolding parts.conflict parts.conflict_of
+  heads_conflict-same = refl
+
 -- ## What is shown
 
 module _ (s : State) (v : Object → ℕ → ℕ) where
@@ -118,7 +121,7 @@ module _ (s : State) (v : Object → ℕ → ℕ) where
 
 pub watched-same : (a b : State) (v : Object → ℕ → ℕ) → plain.watched (swapped a v) (swapped b v) ≡ swapped (plain.watched a b) v
 unfolding plain.watched
-watched-same a b v = rw (field-same a v, field-same b v, head.conflict-same b.plan v, green_to_red-same b.plan v) refl
+watched-same a b v = rw (field-same a v, field-same b v, heads_conflict-same b.plan v, green_to_red-same b.plan v) refl
 
 -- ## What a tick finds
 

@@ -1,9 +1,9 @@
 -- Options that are 0 stay so where no input sets one: in the plan in effect, and in the plan with the edits of the desk.
-use Rattle.std.proofs.Common.{◌≡◌, ℕ, ◌==◌, nat_le, Bool, true, false, not, ◌&&◌, if◌then◌else◌, List, [], ◌∷◌, Option, is_some, refl, sym, ap, subst, ◌∙◌, eqb-true}
+use Rattle.std.proofs.Common.{◌≡◌, ℕ, ◌==◌, nat_le, Bool, true, false, not, ◌&&◌, ◌||◌, if◌then◌else◌, List, [], ◌∷◌, Option, is_some, refl, sym, ap, subst, ◌∙◌, eqb-true}
 use Rattle.std.proofs.lemmas.Bool.{and_parts}
 use Rattle.tsb_step.specs.tsb_types.declared.lamp.Lamp.{Lamp}
 use Rattle.tsb_step.specs.tsb_plan.declared.object.Object.{Object}
-use Rattle.tsb_step.specs.tsb_plan.declared.object.Object.TheVariants.{PhaseDynamicMaxLimit, OverlapType, OverlapModifierPhases, CoordForceMode, CoordMaximumMode, PatternPermissiveTime, PatternLeadLag, PhasePedestrianRecycle, CoordCorrectionMode, OverlapAcrossRings, PreemptChoosesAnew, CoordReference}
+use Rattle.tsb_step.specs.tsb_plan.declared.object.Object.TheVariants.{PhaseDynamicMaxLimit, OverlapType, OverlapModifierPhases, CoordForceMode, CoordMaximumMode, PatternPermissiveTime, PatternLeadLag, PhasePedestrianRecycle, CoordCorrectionMode, OverlapAcrossRings, PreemptChoosesAnew, CoordReference, OverlapTrailGreen, OverlapTrailYellow}
 use Rattle.tsb_step.specs.tsb_plan.Objects.{order}
 use Rattle.tsb_step.specs.tsb_plan.Plan.{Plan, is_same, with_value}
 use Rattle.tsb_step.specs.tsb_transact.declared.edit.Edit.{Edit}
@@ -22,7 +22,7 @@ use Rattle.tsb_laws.proofs.options.EachEditLemmas.{AreEach, each_with}
 -- ## Objects by their places
 
 is_place_of_option : ℕ → Bool
-is_place_of_option n = nat_le 57 n && (nat_le n 70 && (not (n == 58) && not (n == 67)))
+is_place_of_option n = (nat_le 57 n && (nat_le n 70 && (not (n == 58) && not (n == 67)))) || (n == 81 || n == 82)
 
 by_place : (o : Object) → is_option o ≡ is_place_of_option (order o)
 unfolding is_place_of_option
@@ -59,6 +59,8 @@ value_silent plan o i v none sets = record {
   phase_dynamic_max_limit = λ p. value_stays plan o i v sets PhaseDynamicMaxLimit p refl (none.phase_dynamic_max_limit p);
   overlap_type = λ n. value_stays plan o i v sets OverlapType n refl (none.overlap_type n);
   overlap_modifier_phases = λ n. value_stays plan o i v sets OverlapModifierPhases n refl (none.overlap_modifier_phases n);
+  overlap_trail_green = λ n. value_stays plan o i v sets OverlapTrailGreen n refl (none.overlap_trail_green n);
+  overlap_trail_yellow = λ n. value_stays plan o i v sets OverlapTrailYellow n refl (none.overlap_trail_yellow n);
 }
 
 -- the edit sets no option
@@ -127,6 +129,7 @@ step_silent s (inputs.Commit station) silent sets = record {
 }
 step_silent s (inputs.Abort station) silent sets = record { plan = silent.plan; edits = tt }
 step_silent s (inputs.Clock m) silent sets = record { plan = silent.plan; edits = silent.edits }
+step_silent s (inputs.Omit list) silent sets = record { plan = silent.plan; edits = silent.edits }
 
 pub run_silent : (plan : Plan) (is : List Input) → HasEachAtZero plan → SetNoOption is → IsSilent (replay plan is)
 run_silent plan [] none sets = record { plan = none; edits = tt }

@@ -27,6 +27,8 @@ use Rattle.tsb_step.specs.tsb_phase.Next as phase_next
 use Rattle.tsb_step.specs.tsb_phase.Pedestrian as pedestrian
 use Rattle.tsb_step.specs.tsb_phase.Phase as phase
 use Rattle.tsb_step.specs.tsb_phase.Ready as timing
+use Rattle.tsb_step.specs.tsb_overlap.Overlap as overlaps
+use Rattle.tsb_step.specs.tsb_overlap.Overlap.{Overlap, is_held}
 use Rattle.tsb_step.specs.tsb_preempt.Preempts as preempts
 use Rattle.tsb_step.specs.tsb_preempt.Service.{Service}
 use Rattle.tsb_step.specs.tsb_ring.GivenUp.{given_up}
@@ -36,13 +38,14 @@ use Rattle.tsb_step.specs.tsb_ring.Rings as rings
 use Rattle.tsb_step.specs.Signs.{shown, is_lasting, display, field, watched}
 use Rattle.tsb_step.specs.State.{State}
 use Rattle.tsb_step.specs.Step.{ticked}
-use Rattle.tsb_step.specs.Tick.{preempts_given, service, target, forced, recycle, calls_given, phases_given, phase_read, ready, gapped, rings_given, moves, moved, done, after_moves, gives_up, new_rings, next}
+use Rattle.tsb_step.specs.Tick.{preempts_given, service, target, forced, recycle, calls_given, phases_given, phase_read, ready, gapped, held, lets_go, rings_given, moves, moved, done, after_moves, gives_up, new_rings, after_rings, overlaps_given, next}
 use Rattle.tsb_step.proofs.tsb_coord.CorrectionLemmas.{in_step_at_once, forces_in_step}
 use Rattle.tsb_laws.proofs.options.DifferLemmas.{only_limit, with_limit}
 use Rattle.tsb_laws.proofs.options.CallLemmas.{counted-same, pedestrian_memory-same, vehicle_memory-same}
 use Rattle.tsb_laws.proofs.options.FoundLemmas as found
-use Rattle.tsb_laws.proofs.options.HeadLemmas.{conflict-same, green_to_red-same}
-use Rattle.tsb_laws.proofs.options.LimitLemmas.{is_ready-same, is_gapped-same, running-same, ordered-same, some_lasts-same}
+use Rattle.tsb_laws.proofs.options.HeadLemmas.{green_to_red-same}
+use Rattle.tsb_laws.proofs.options.LimitLemmas.{is_ready-same, is_gapped-same, running-same, ordered-same, some_lasts-same, conflict-same, is_held-same}
+use Rattle.tsb_laws.proofs.options.LimitLemmas as limit
 use Rattle.tsb_laws.proofs.options.PhaseLemmas.{gap-same, initial-same, reduction_timer-same, pedestrian_now-same}
 use Rattle.tsb_laws.proofs.options.RingLemmas.{given_up-same}
 use Rattle.tsb_laws.proofs.options.RingLemmas as ring
@@ -150,7 +153,7 @@ module _ (s : State) (v : Object → ℕ → ℕ) where
 
 pub watched-same : (a b : State) (v : Object → ℕ → ℕ) → watched (swapped a v) (swapped b v) ≡ swapped (watched a b) v
 unfolding watched
-watched-same a b v = rw (field-same a v, field-same b v, conflict-same b.plan (only_limit b.plan v), green_to_red-same b.plan (only_limit b.plan v)) refl
+watched-same a b v = rw (field-same a v, field-same b v, conflict-same b.plan v, green_to_red-same b.plan (only_limit b.plan v)) refl
 
 -- ## What a tick finds
 
@@ -198,6 +201,15 @@ module _ (s : State) (row : Row) (v : Object → ℕ → ℕ) (mode : correction
       ap (λ (f : phase.Given → ℕ → phase.Phase → Bool). f (phases_given (swapped s v) row) p (phase_read s p)) (is_ready-same s.plan v)
       ∙ ap (λ (g : phase.Given). timing.is_ready s.plan g p (phase_read s p)) phases_given-same
 
+  held-same : (p : ℕ) → held (swapped s v) row p ≡ held s row p
+  unfolding held
+  held-same p =
+      ap (λ (f : Bool → (ℕ → Overlap) → ℕ → Bool). f (is_some (service (swapped s v) row)) s.overlaps p) (is_held-same s.plan v)
+      ∙ ap (λ (o : Option ℕ). is_held s.plan (is_some o) s.overlaps p) (found.service-same s row (only_limit s.plan v))
+
+  lets_go-same : (p : ℕ) → lets_go (swapped s v) row p ≡ lets_go s row p
+  lets_go-same p = ap₂ (λ (a b : Bool). a && not b) (found.over-same s row (only_limit s.plan v) p) (held-same p)
+
   rings_given-same : rings_given (swapped s v) row ≡ rings_given s row
   unfolding rings_given
   rings_given-same =
@@ -207,7 +219,7 @@ module _ (s : State) (row : Row) (v : Object → ℕ → ℕ) (mode : correction
         over = clipped f;
         reverted = clipped g;
         target = target (swapped s v) row;
-      }) (fun_ext (λ p. found.over-same s row (only_limit s.plan v) p)) (fun_ext (λ p. found.reverted-same s row (only_limit s.plan v) p))
+      }) (fun_ext (λ p. lets_go-same p)) (fun_ext (λ p. found.reverted-same s row (only_limit s.plan v) p))
       ∙ ap (λ (t : Option (ℕ → Bool)). record (rings_given s row) { target = t }) (found.target-same s row (only_limit s.plan v))
 
   moves-same : moves (swapped s v) row ≡ moves s row
@@ -290,8 +302,26 @@ module _ (s : State) (row : Row) (v : Object → ℕ → ℕ) (mode : correction
       then given_up s.plan t (after_moves (swapped s v) row).rings else (after_moves (swapped s v) row).rings) (found.target-same s row (only_limit s.plan v))
       ∙ ap₂ (λ (b : Bool) (r : rings.State). if b then given_up s.plan (target s row) r else r) gives_up-same (ap (λ (a : State). a.rings) after_moves-same)
 
+  after_rings-same : after_rings (swapped s v) row ≡ swapped (after_rings s row) v
+  after_rings-same = ap₂ (λ (a : State) (r : rings.State). record a { rings = r }) after_moves-same new_rings-same
+
+  -- ## What overlaps see
+
+  seen-same : overlaps_given (swapped s v) row ≡ overlaps_given s row
+  seen-same =
+      ap₂ (λ (a : State) (o : Option ℕ). record (overlaps_given s row) {
+        shown = shown a;
+        timer = λ p. (a.phases p).timer;
+        preempted = is_some o;
+      }) after_rings-same (found.service-same s row (only_limit s.plan v))
+
+  overlaps-same : overlaps.next (with_limit s.plan v) (overlaps_given (swapped s v) row) s.overlaps ≡ overlaps.next s.plan (overlaps_given s row) s.overlaps
+  overlaps-same =
+      ap (λ (f : overlaps.Given → (ℕ → Overlap) → ℕ → Overlap). f (overlaps_given (swapped s v) row) s.overlaps) (limit.next-same s.plan v)
+      ∙ ap (λ (g : overlaps.Given). overlaps.next s.plan g s.overlaps) seen-same
+
   next-same : next (swapped s v) row ≡ swapped (next s row) v
-  next-same = ap₂ (λ (a : State) (r : rings.State). record a { rings = r }) after_moves-same new_rings-same
+  next-same = ap₂ (λ (a : State) (f : ℕ → Overlap). record a { overlaps = f }) after_rings-same overlaps-same
 
   pub ticked-same : ticked row (swapped s v) ≡ swapped (ticked row s) v
   ticked-same = go (is_some s.trip)

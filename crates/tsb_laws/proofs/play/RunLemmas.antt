@@ -2,20 +2,23 @@
 use Rattle.std.proofs.Common.{◌≡◌, ℕ, zero, suc, ◌≤◌, List, [], ◌∷◌, drop, sym, subst, arith}
 use Rattle.tsb_step.specs.tsb_plan.Plan.{Plan}
 use Rattle.tsb_step.specs.declared.inputs.Input.{Input}
+use Rattle.tsb_step.specs.Backed.{AreBacked}
 use Rattle.tsb_step.specs.Good.{IsGood}
 use Rattle.tsb_step.specs.Laws.{IsConsistent}
 use Rattle.tsb_step.specs.Runs.{replay, AreTaken}
 use Rattle.tsb_step.specs.State.{State}
 use Rattle.tsb_step.proofs.ClearLemmas.{clears_in_time, clears_at_zero, clears_with_its_split}
+use Rattle.tsb_step.proofs.DisplayLemmas.{display_is_safe}
 use Rattle.tsb_step.proofs.EndLemmas.{ends_in_time}
 use Rattle.tsb_step.proofs.FieldLemmas.{fields_are_quiet}
+use Rattle.tsb_step.proofs.BackedLemmas.{backed_run}
 use Rattle.tsb_step.proofs.GoodLemmas.{good_run}
 use Rattle.tsb_step.proofs.GiveUpHeadLemmas.{shows_the_same, wants_commitments}
 use Rattle.tsb_step.proofs.HeldLemmas.{has_held}
 use Rattle.tsb_step.proofs.OverlapRunLemmas.{overlaps_clear}
 use Rattle.tsb_step.proofs.RestLemmas.{rests_run}
 use Rattle.tsb_step.proofs.RevertLemmas.{starts_after_red_revert}
-use Rattle.tsb_step.proofs.SafeLemmas.{display_is_safe, served_together, starts_waiting, serves_preempt}
+use Rattle.tsb_step.proofs.SafeLemmas.{served_together, starts_waiting, serves_preempt}
 use Rattle.tsb_step.proofs.SideRunLemmas.{sided_run}
 use Rattle.tsb_step.proofs.StandLemmas.{stands_in_runs}
 use Rattle.tsb_step.proofs.TellLemmas.{timers_tell_time}
@@ -25,6 +28,8 @@ use Rattle.tsb_step.proofs.YellowLemmas.{clears_in_yellow}
 use Rattle.tsb_laws.specs.PlayLaws.{KeepsLaws}
 use Rattle.tsb_laws.specs.PlayRecords.{KeepsRecords}
 use Rattle.tsb_laws.specs.Runs.{IsHeld, IsRun, AreTyped}
+use Rattle.tsb_laws.proofs.arrows.ArrowRunLemmas.{arrow_goes, idle_unlit, may_flash, protected, timed_clears}
+use Rattle.tsb_laws.proofs.arrows.CardLemmas.{permits_lit}
 use Rattle.tsb_laws.proofs.options.PlainRunLemmas.{runs_agree, shows_agree}
 use Rattle.tsb_laws.proofs.heads.ClearLemmas.{phase_clears, overlap_clears}
 use Rattle.tsb_laws.proofs.heads.LitLemmas.{keeps_lit_heads}
@@ -75,7 +80,7 @@ module _ (plan : Plan) (held : IsHeld plan) where
   laws_of : (is : List Input) → AreTaken plan is → KeepsLaws plan is (replay plan is)
   laws_of is taken = record {
     plans_stay_consistent = good.plan;
-    displays_are_safe = display_is_safe (replay plan is) good;
+    displays_are_safe = display_is_safe (replay plan is) good backed;
     displays_are_safe_together = served_together (replay plan is) good;
     displays_are_safe_walks = good.walks;
     starts_wait = starts_waiting (replay plan is) good;
@@ -97,25 +102,32 @@ module _ (plan : Plan) (held : IsHeld plan) where
     sides_are_served = sided_run plan is ok taken;
     ended_have_held = has_held plan is ok taken;
     waits_keep_phases = kept-next (replay plan is) good;
+    overlaps_are_backed = backed;
     intergreens_hold = λ older later row next p q e x. has_cleared plan older later row next p q ok (rw e at taken) x;
     intergreens_hold_walks = λ older later row next p q e x. has_walked plan older later row next p q ok (rw e at taken) x;
     red_reverts_hold = λ base later row p e x. reverts_hold plan base later row p ok (rw e at taken) x;
     enabled_are_served = record { serves = (enabled_run plan is ok taken).serves; promised = (enabled_run plan is ok taken).promised };
-    commitments_are_served = λ older later row p r c e dark none x. are_served plan older later row p r c ok (few plan held) (rw e at taken) dark none x;
-    crossings_complete = λ older later row d n e dark none x most.
-        completes_in_time plan older later row d n ok (few plan held) (rw e at taken) dark none x most;
+    commitments_are_served = λ older later row p r c e dark none free x. are_served plan older later row p r c ok (few plan held) (rw e at taken) dark none free x;
+    crossings_complete = λ older later row d n e dark none free x most.
+        completes_in_time plan older later row d n ok (few plan held) (rw e at taken) dark none free x most;
     coordinated_end_by_force_off = λ dark row p ends on none. ends_by_force_off plan is row p ok (few plan held) taken dark ends on none;
     omitted_are_not_served = λ dark row q off none. omits_hold plan is row q ok (few plan held) taken dark off none;
     all_red_ends = λ base later n e dark red wanted most.
         rw e (all_red_ends plan base later n ok (held_in_range plan held) (few plan held) (rw e at taken) dark red wanted most);
-    lit_heads_stay = λ i. keeps_lit_heads (replay plan is) i good;
+    lit_heads_stay = λ i. keeps_lit_heads (replay plan is) i good backed;
     lit_heads_clear_in_yellow = phase_clears plan is ok taken;
     lit_heads_clear_in_yellow_overlaps = overlap_clears plan is ok taken;
+    arrows_flash_by_permissions = may_flash (replay plan is) good backed (calm_run plan is ok taken);
+    green_arrows_are_protected = protected (replay plan is) good backed;
+    arrows_go_with_phases = arrow_goes (replay plan is) good backed;
+    timed_overlaps_clear_in_yellow = timed_clears plan is ok taken;
+    idle_overlaps_are_unlit = idle_unlit (replay plan is) good backed;
+    cards_permit_what_is_lit = permits_lit (replay plan is) good backed;
     calls_are_kept_remembered = λ dark row p. remembers (replay plan is) good row p (rw (count_run plan is) (few plan held)) dark;
     calls_are_kept_vehicles = λ base later p e on was. rw e (vehicles_stand plan base later p ok (rw e at taken) on was);
     calls_are_kept_pedestrians = λ base later p e on was. rw e (pedestrians_stand plan base later p ok (few plan held) (rw e at taken) on was);
     greens_end_for_a_reason = λ dark row p x. ends_for_a_reason plan is row p ok (few plan held) taken dark x;
-    overlaps_go_with_phases = goes_with_phases (replay plan is) good;
+    overlaps_go_with_phases = goes_with_phases (replay plan is) good backed;
     maximums_move_by_steps_bounded = bounded (replay plan is);
     maximums_move_by_steps = moves_by_a_step (replay plan is) good;
     maximums_move_by_steps_others = others_leave_it (replay plan is);
@@ -180,6 +192,9 @@ module _ (plan : Plan) (held : IsHeld plan) where
 
       good : IsGood (replay plan is)
       good = good_run plan is held.consistent taken
+
+      backed : AreBacked (replay plan is)
+      backed = backed_run plan is held.consistent taken
 
   pub laws_now : (is : List Input) (s : State) → AreTaken plan is → s ≡ replay plan is → KeepsLaws plan is s
   laws_now is s taken e = subst (KeepsLaws plan is) (sym e) (laws_of is taken)

@@ -1,7 +1,7 @@
 -- What one tick makes of two rings that are idle, where each phase has passed its red revert: a commitment starts; where there is
 -- none, some phase starts, or a crossing begins that commits a ring.
 use Rattle.std.proofs.Common.{◌≡◌, ℕ, ◌==◌, Bool, true, false, not, ◌&&◌, ◌||◌, if◌then◌else◌, List, [], ◌∷◌, Option, Some, None, is_some, is_none, refl, sym, ap, subst, inl, inr, ◌⊎◌, ◌∙◌}
-use Rattle.std.proofs.lemmas.Bool.{cases_Bool, and_parts, or_cases, or_left, or_right, eq-eqb, true≢false, false≢true}
+use Rattle.std.proofs.lemmas.Bool.{and_parts, cases_Bool, eq-eqb, false≢true, not_from_false, or_cases, or_left, or_right}
 use Rattle.tsb_step.specs.tsb_types.Lists.{first, among, is, after, up_to, later, not_later, or_number}
 use Rattle.tsb_step.specs.tsb_plan.Plan.{Plan, phases, is_enabled, sides_after}
 use Rattle.tsb_step.specs.tsb_rules.Rules.{first_broken}
@@ -56,10 +56,6 @@ passes : (crossing completed alone : Bool) (c : ℕ) → (crossing ≡ true → 
     (if (if crossing then completed else alone) then Some c else None) ≡ Some c
 passes true completed alone c h k = rw (h refl) refl
 passes false completed alone c h k = rw (k refl) refl
-
-not_true : (b : Bool) → b ≡ false → not b ≡ true
-not_true true h = absurd (true≢false h)
-not_true false h = refl
 
 -- ## A want that leaves the ring where it is
 
@@ -184,7 +180,7 @@ module _ (plan : Plan) (s : State) (given : Given) (idle : (r : Ring) → servin
         ]
         | inr off ↦ false≢true (sym inner.0
             ∙ found_some (λ q. given.callable q && not (is_on_side plan s.side q)) (phases plan) p (told.listed p (told.called_on p called))
-            (rw (called, not_true (is_on_side plan s.side p) off) refl))
+            (rw (called, not_from_false (is_on_side plan s.side p) off) refl))
       ]
     where
       candidate : ℕ → Bool
@@ -212,7 +208,7 @@ module _ (plan : Plan) (s : State) (given : Given) (idle : (r : Ring) → servin
         | inl on ↦ none_first candidate (phases plan) p listed (rw (own, on, wanted, fits_alone r p) refl) outer.0
         | inr off ↦ false≢true (sym inner.0
             ∙ found_some (λ q. is_targeted plan target q && not (is_on_side plan s.side q)) (phases plan) p listed
-            (rw (wanted, not_true (is_on_side plan s.side p) off) refl))
+            (rw (wanted, not_from_false (is_on_side plan s.side p) off) refl))
       ]
     where
       candidate : ℕ → Bool

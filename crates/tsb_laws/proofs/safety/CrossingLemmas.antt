@@ -33,7 +33,8 @@ use Rattle.tsb_step.proofs.SideRunLemmas.{sided_run}
 use Rattle.tsb_step.proofs.GiveUpLemmas.{crossing_by_moves}
 use Rattle.tsb_step.proofs.StandLemmas.{rings_then, rings_moved, gives_none_then}
 use Rattle.tsb_step.proofs.TellLemmas.{held_on, dark_before, timers_tell_time}
-use Rattle.tsb_laws.specs.Stretches.{IsUntripped, has_held_since, NoneChooses, largest, StartsGreen}
+use Rattle.tsb_laws.specs.Stretches.{IsUntripped, has_held_since, NoneChooses, has_no_trails, NoneTrails, largest, StartsGreen}
+use Rattle.tsb_laws.proofs.safety.UnheldLemmas.{told_over, untrailed_before, untrailed_now}
 use Rattle.tsb_laws.specs.Crossings.{BeginsCrossing, TakesAtMost, IsCompleted, CompletesWithin}
 use Rattle.tsb_laws.proofs.safety.StretchLemmas.{dark_now, taken_before, IsSame, Goes, ticks, stays, goes, at_next}
 use Rattle.tsb_laws.proofs.safety.EnabledLemmas.{callable_on}
@@ -152,11 +153,12 @@ module _ (plan : Plan) (base : List Input) (d n : ℕ) (ok : IsConsistent plan) 
     pub late : ((p : ℕ) × (in_service (interval (replay plan (later ++ base)) p) ≡ true) × (over (replay plan (later ++ base)) p ≡ false))
         ⊎ ((r : Ring) × (c : ℕ) × ((replay plan (later ++ base)).rings.commitment r ≡ Some c) × (reverted (replay plan (later ++ base)) c ≡ false))
 
-  waiting : (row : Row) (later : List Input) → AreTaken plan (later ++ base) → (replay plan (later ++ base)).trip ≡ None → Crosses plan base d n later →
+  waiting : (row : Row) (later : List Input) → AreTaken plan (later ++ base) → (replay plan (later ++ base)).trip ≡ None →
+      has_no_trails (replay plan (later ++ base)).plan ≡ true → Crosses plan base d n later →
       gives_up (replay plan (later ++ base)) row ≡ false →
       completes (replay plan (later ++ base)).plan (replay plan (later ++ base)).rings (rings_given (replay plan (later ++ base)) row) ≡ false → Waiting row later
   unfolding moves rings_given rings_next
-  waiting row later taken dark was none not_done = record {
+  waiting row later taken dark free was none not_done = record {
     way = ap (λ (x : rings.State). x.crossing) (rings_moved s row dark none) ∙ goes_on s.plan s.rings (rings_given s row) (yellow_done s) even good.rings told d was.under_way not_done;
     side = ap (λ (x : rings.State). x.side) (rings_moved s row dark none) ∙ side_stays s.plan s.rings (rings_given s row) (yellow_done s) even good.rings told d was.under_way not_done;
     commitment = λ r. ap (λ (x : rings.State). x.commitment r) (rings_moved s row dark none)
@@ -200,7 +202,7 @@ module _ (plan : Plan) (base : List Input) (d n : ℕ) (ok : IsConsistent plan) 
       late : WaitsFor s.plan s.rings (rings_given s row) (yellow_done s) even good.rings told d was.under_way →
           ((p : ℕ) × (in_service (interval (replay plan (later ++ base)) p) ≡ true) × (over (replay plan (later ++ base)) p ≡ false))
           ⊎ ((r : Ring) × (c : ℕ) × ((replay plan (later ++ base)).rings.commitment r ≡ Some c) × (reverted (replay plan (later ++ base)) c ≡ false))
-      late (clearance_of p h k) = inl (p, h, sym (clipped_at (over s) s.plan p (few_now (later ++ base)) (good.rings.listed p h)) ∙ k)
+      late (clearance_of p h k) = inl (p, h, sym (told_over s row p free (few_now (later ++ base)) (good.rings.listed p h)) ∙ k)
       late (revert_of r c e k) = inr (r, c, e, sym (clipped_at (reverted s) s.plan c (few_now (later ++ base)) (good.rings.owned r c e).1) ∙ k)
 
   -- a phase goes on clearing
@@ -357,9 +359,10 @@ module _ (plan : Plan) (base : List Input) (d n : ℕ) (ok : IsConsistent plan) 
   }
 
   one_on : (i : Input) (later : List Input) → AreTaken plan (i ∷ (later ++ base)) → (replay plan (later ++ base)).trip ≡ None → TakesAtMost plan base n later →
+      has_no_trails (replay plan (later ++ base)).plan ≡ true →
       is_choosing (replay plan (i ∷ (later ++ base))) ≡ false → Stage plan base d n later → Stage plan base d n (i ∷ later)
-  one_on i later taken dark limit none (completed x) = completed (one_more i later x)
-  one_on i later taken dark limit none (crosses was) = go (goes (replay plan (later ++ base)) i dark)
+  one_on i later taken dark limit free none (completed x) = completed (one_more i later x)
+  one_on i later taken dark limit free none (crosses was) = go (goes (replay plan (later ++ base)) i dark)
     where
       tick : (row : Row) → AreTaken plan (Tick row ∷ (later ++ base)) → is_choosing (replay plan (Tick row ∷ (later ++ base))) ≡ false →
           Stage plan base d n (Tick row ∷ later)
@@ -367,7 +370,7 @@ module _ (plan : Plan) (base : List Input) (d n : ℕ) (ok : IsConsistent plan) 
           elim (cases_Bool (completes (replay plan (later ++ base)).plan (replay plan (later ++ base)).rings (rings_given (replay plan (later ++ base)) row))) [
             | inl h ↦ completed (completes_now row later there.0 dark was (gives_none_then (replay plan (later ++ base)) row dark chooses_not) h)
             | inr h ↦ crosses (waits_on row later there dark limit was
-                (waiting row later there.0 dark was (gives_none_then (replay plan (later ++ base)) row dark chooses_not) h))
+                (waiting row later there.0 dark free was (gives_none_then (replay plan (later ++ base)) row dark chooses_not) h))
           ]
 
       go : Goes (replay plan (later ++ base)) i → Stage plan base d n (i ∷ later)
@@ -377,14 +380,15 @@ module _ (plan : Plan) (base : List Input) (d n : ℕ) (ok : IsConsistent plan) 
           (subst (λ (j : Input). is_choosing (replay plan (j ∷ (later ++ base))) ≡ false) e none))
       go (stays no_tick same) = crosses (still i later taken no_tick same was)
 
-  stage : (later : List Input) → AreTaken plan (later ++ base) → IsUntripped plan base later → NoneChooses plan base later → TakesAtMost plan base n later →
-      Stage plan base d n [] → Stage plan base d n later
-  stage [] taken dark none limit first = first
-  stage (i ∷ later) taken dark none limit first =
+  stage : (later : List Input) → AreTaken plan (later ++ base) → IsUntripped plan base later → NoneChooses plan base later → NoneTrails plan base later →
+      TakesAtMost plan base n later → Stage plan base d n [] → Stage plan base d n later
+  stage [] taken dark none free limit first = first
+  stage (i ∷ later) taken dark none free limit first =
+      let free_before : NoneTrails plan base later = untrailed_before plan base i later free in
       let both = and_parts (not (is_choosing (replay plan (i ∷ (later ++ base))))) (has_held_since (λ s. not (is_choosing s)) plan base later) none in
       one_on i later taken (dark_now plan base later dark.0) (at_most_before plan base n later i limit)
-      (not-true (is_choosing (replay plan (i ∷ (later ++ base)))) both.0)
-      (stage later taken.0 dark.0 both.1 (at_most_before plan base n later i limit) first)
+      (untrailed_now plan base later free_before) (not-true (is_choosing (replay plan (i ∷ (later ++ base)))) both.0)
+      (stage later taken.0 dark.0 both.1 free_before (at_most_before plan base n later i limit) first)
 
 -- ## As it begins
 
@@ -451,9 +455,9 @@ begun s row d good dark out h = record {
 
 pub completes_in_time : (plan : Plan) (is later : List Input) (row : Row) (d n : ℕ) → IsConsistent plan → plan.phase_count ≤ 16 →
     AreTaken plan (later ++ (Tick row ∷ is)) → IsUntripped plan (Tick row ∷ is) later → NoneChooses plan (Tick row ∷ is) later →
-    BeginsCrossing plan is row d → TakesAtMost plan (Tick row ∷ is) n later → CompletesWithin plan (Tick row ∷ is) d (suc n) later
-completes_in_time plan is later row d n ok few taken dark none x limit =
-    go (stage plan (Tick row ∷ is) d n ok few later taken dark none limit (crosses first))
+    NoneTrails plan (Tick row ∷ is) later → BeginsCrossing plan is row d → TakesAtMost plan (Tick row ∷ is) n later → CompletesWithin plan (Tick row ∷ is) d (suc n) later
+completes_in_time plan is later row d n ok few taken dark none free x limit =
+    go (stage plan (Tick row ∷ is) d n ok few later taken dark none free limit (crosses first))
   where
     there : AreTaken plan (Tick row ∷ is)
     there = taken_before plan (Tick row ∷ is) later taken

@@ -33,7 +33,8 @@ use Rattle.tsb_step.proofs.GiveUpLemmas.{committed_by_moves, outside_by_moves, o
 use Rattle.tsb_step.proofs.StandLemmas.{rings_then, stands_in_runs}
 use Rattle.tsb_step.proofs.TellLemmas.{held_on, held_none, dark_before, timers_tell_time}
 use Rattle.tsb_step.proofs.YellowLemmas.{long_yellow}
-use Rattle.tsb_laws.specs.Stretches.{IsUntripped, has_held_since, NoneChooses, largest, StartsGreen}
+use Rattle.tsb_laws.specs.Stretches.{IsUntripped, has_held_since, NoneChooses, has_no_trails, NoneTrails, largest, StartsGreen}
+use Rattle.tsb_laws.proofs.safety.UnheldLemmas.{told_over, untrailed_before, untrailed_now}
 use Rattle.tsb_laws.specs.Commitments.{CommitsTo, wait, HasStarted, StartsWithin}
 use Rattle.tsb_laws.proofs.safety.StretchLemmas.{dark_now, taken_before, IsSame, Goes, ticks, stays, goes, at_next}
 use Rattle.tsb_laws.proofs.safety.IntergreenLemmas.{turns_yellow}
@@ -165,10 +166,11 @@ module _ (plan : Plan) (base : List Input) (p : ℕ) (r : Ring) (c : ℕ) (ok : 
   few_now : (is : List Input) → (replay plan is).plan.phase_count ≤ 16
   few_now is = let same = count_run plan is in omega (arith, same, few)
 
-  quiet : (row : Row) (later : List Input) → AreTaken plan (later ++ base) → (replay plan (later ++ base)).trip ≡ None → Waits plan base p r c later →
+  quiet : (row : Row) (later : List Input) → AreTaken plan (later ++ base) → (replay plan (later ++ base)).trip ≡ None →
+      has_no_trails (replay plan (later ++ base)).plan ≡ true → Waits plan base p r c later →
       (step (replay plan (later ++ base)) (Tick row)).rings.commitment r ≡ Some c → Quiet row later
   unfolding moves rings_given rings_next
-  quiet row later taken dark was stands = record {
+  quiet row later taken dark free was stands = record {
     no_start = starts_not s.plan s.rings (rings_given s row) (yellow_done s) even good.rings (given s row good) r p was.ringed none;
     no_clear = clears_not s.plan s.rings (rings_given s row) r p c was.ringed was.commits none;
     out = ap (λ (x : rings.State). x.crossing) (rings_then s row dark)
@@ -194,7 +196,7 @@ module _ (plan : Plan) (base : List Input) (p : ℕ) (r : Ring) (c : ℕ) (ok : 
 
       late : ((rings_given s row).over p ≡ false) ⊎ ((rings_given s row).reverted c ≡ false) →
           (over (replay plan (later ++ base)) p ≡ false) ⊎ (reverted (replay plan (later ++ base)) c ≡ false)
-      late (inl h) = inl (sym (clipped_at (over s) s.plan p (few_now (later ++ base)) (good.rings.listed p serves)) ∙ h)
+      late (inl h) = inl (sym (told_over s row p free (few_now (later ++ base)) (good.rings.listed p serves)) ∙ h)
       late (inr h) = inr (sym (clipped_at (reverted s) s.plan c (few_now (later ++ base)) (good.rings.owned r c was.commits).1) ∙ h)
 
   -- p goes on clearing, and if it is not over there is time left
@@ -258,9 +260,10 @@ module _ (plan : Plan) (base : List Input) (p : ℕ) (r : Ring) (c : ℕ) (ok : 
       }
 
   ticked_on : (row : Row) (later : List Input) → AreTaken plan (Tick row ∷ (later ++ base)) → (replay plan (later ++ base)).trip ≡ None →
-      Waits plan base p r c later → (replay plan (Tick row ∷ (later ++ base))).rings.commitment r ≡ Some c → Waits plan base p r c (Tick row ∷ later)
-  ticked_on row later taken dark was stands =
-      let q : Quiet row later = quiet row later taken.0 dark was stands in
+      has_no_trails (replay plan (later ++ base)).plan ≡ true → Waits plan base p r c later →
+      (replay plan (Tick row ∷ (later ++ base))).rings.commitment r ≡ Some c → Waits plan base p r c (Tick row ∷ later)
+  ticked_on row later taken dark free was stands =
+      let q : Quiet row later = quiet row later taken.0 dark free was stands in
       let on : GoesOn row later = goes_on row later taken.0 dark q was.clears in
       let own : in_ring (replay plan (Tick row ∷ (later ++ base))).plan r p ≡ true = ring_on (Tick row) later taken was in
       let held : held_for (λ s. not (is_green (interval s c) || is_yellow (interval s c))) plan (Tick row ∷ (later ++ base))
@@ -323,9 +326,10 @@ module _ (plan : Plan) (base : List Input) (p : ℕ) (r : Ring) (c : ℕ) (ok : 
       }
 
   one_on : (i : Input) (later : List Input) → AreTaken plan (i ∷ (later ++ base)) → (replay plan (later ++ base)).trip ≡ None →
-      is_choosing (replay plan (i ∷ (later ++ base))) ≡ false → Stage plan base p r c later → Stage plan base p r c (i ∷ later)
-  one_on i later taken dark none (started x) = started (one_more i later x)
-  one_on i later taken dark none (waits was) = go (goes (replay plan (later ++ base)) i dark)
+      has_no_trails (replay plan (later ++ base)).plan ≡ true → is_choosing (replay plan (i ∷ (later ++ base))) ≡ false →
+      Stage plan base p r c later → Stage plan base p r c (i ∷ later)
+  one_on i later taken dark free none (started x) = started (one_more i later x)
+  one_on i later taken dark free none (waits was) = go (goes (replay plan (later ++ base)) i dark)
     where
       tick : (row : Row) → AreTaken plan (Tick row ∷ (later ++ base)) → is_choosing (replay plan (Tick row ∷ (later ++ base))) ≡ false →
           Stage plan base p r c (Tick row ∷ later)
@@ -333,7 +337,7 @@ module _ (plan : Plan) (base : List Input) (p : ℕ) (r : Ring) (c : ℕ) (ok : 
           by (stands_in_runs (replay plan (later ++ base)) (good_run plan (later ++ base) ok taken'.0) (Tick row) r c dark chooses_not was.commits)
         where
           by : StandsOrStarts (replay plan (later ++ base)) (Tick row) r c → Stage plan base p r c (Tick row ∷ later)
-          by (inl stands) = waits (ticked_on row later taken' dark was stands)
+          by (inl stands) = waits (ticked_on row later taken' dark free was stands)
           by (inr starts) = started (starts_now row later was (record { was_not = starts.0; starts = starts.1 }))
 
       go : Goes (replay plan (later ++ base)) i → Stage plan base p r c (i ∷ later)
@@ -343,13 +347,14 @@ module _ (plan : Plan) (base : List Input) (p : ℕ) (r : Ring) (c : ℕ) (ok : 
           (subst (λ (j : Input). is_choosing (replay plan (j ∷ (later ++ base))) ≡ false) e none))
       go (stays no_tick same) = waits (still i later taken no_tick same was)
 
-  stage : (later : List Input) → AreTaken plan (later ++ base) → IsUntripped plan base later → NoneChooses plan base later →
+  stage : (later : List Input) → AreTaken plan (later ++ base) → IsUntripped plan base later → NoneChooses plan base later → NoneTrails plan base later →
       Stage plan base p r c [] → Stage plan base p r c later
-  stage [] taken dark none first = first
-  stage (i ∷ later) taken dark none first =
+  stage [] taken dark none free first = first
+  stage (i ∷ later) taken dark none free first =
+      let free_before : NoneTrails plan base later = untrailed_before plan base i later free in
       let both = and_parts (not (is_choosing (replay plan (i ∷ (later ++ base))))) (has_held_since (λ s. not (is_choosing s)) plan base later) none in
-      one_on i later taken (dark_now plan base later dark.0) (not-true (is_choosing (replay plan (i ∷ (later ++ base)))) both.0)
-      (stage later taken.0 dark.0 both.1 first)
+      one_on i later taken (dark_now plan base later dark.0) (untrailed_now plan base later free_before) (not-true (is_choosing (replay plan (i ∷ (later ++ base)))) both.0)
+      (stage later taken.0 dark.0 both.1 free_before first)
 
 -- ## As the commitment is made
 
@@ -378,8 +383,8 @@ made_so s row r p c good dark own ended made out =
 
 pub are_served : (plan : Plan) (is later : List Input) (row : Row) (p : ℕ) (r : Ring) (c : ℕ) → IsConsistent plan → plan.phase_count ≤ 16 →
     AreTaken plan (later ++ (Tick row ∷ is)) → IsUntripped plan (Tick row ∷ is) later → NoneChooses plan (Tick row ∷ is) later →
-    CommitsTo plan is row p r c → StartsWithin plan (Tick row ∷ is) c (wait plan (Tick row ∷ is) p c later) later
-are_served plan is later row p r c ok few taken dark none x = go (stage plan (Tick row ∷ is) p r c ok few apart later taken dark none (waits first))
+    NoneTrails plan (Tick row ∷ is) later → CommitsTo plan is row p r c → StartsWithin plan (Tick row ∷ is) c (wait plan (Tick row ∷ is) p c later) later
+are_served plan is later row p r c ok few taken dark none free x = go (stage plan (Tick row ∷ is) p r c ok few apart later taken dark none free (waits first))
   where
     there : AreTaken plan (Tick row ∷ is)
     there = taken_before plan (Tick row ∷ is) later taken

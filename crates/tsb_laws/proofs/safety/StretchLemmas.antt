@@ -1,5 +1,5 @@
 -- What an input does to the phases and the tick number, and how what has held since a moment goes on from input to input.
-use Rattle.std.proofs.Common.{◌≡◌, ℕ, ◌+◌, Bool, true, false, if◌then◌else◌, List, [], ◌∷◌, ◌++◌, Option, None, is_some, refl, ap}
+use Rattle.std.proofs.Common.{◌≡◌, ℕ, Bool, true, false, if◌then◌else◌, List, [], ◌∷◌, ◌++◌, Option, None, is_some, refl, ap}
 use Rattle.std.proofs.lemmas.Bool.{true≢false}
 use Rattle.std.proofs.Math.Bool.{and-false}
 use Rattle.tsb_step.specs.tsb_types.declared.lamp.Lamp.{Lamp}
@@ -61,42 +61,33 @@ pub record IsSame (s after : State) : Type 0 where
   pub commitment : (r : Ring) → after.rings.commitment r ≡ s.rings.commitment r
   pub crossing : after.rings.crossing ≡ s.rings.crossing
   pub side : after.rings.side ≡ s.rings.side
+  pub overlaps : after.overlaps ≡ s.overlaps
 
 lit_same : (s : State) (lamp : Option Lamp) → IsSame s (with_lamp lamp s)
 unfolding watched
 lit_same s lamp = go (is_some s.trip)
   where
     go : (b : Bool) → IsSame s (if b then record s { lamp = lamp } else watched s (record s { lamp = lamp }))
-    go true = record { interval = λ p. refl; part = λ p. refl; now = refl; commitment = λ r. refl; crossing = refl; side = refl }
-    go false = record { interval = λ p. refl; part = λ p. refl; now = refl; commitment = λ r. refl; crossing = refl; side = refl }
+    go true = record { interval = λ p. refl; part = λ p. refl; now = refl; commitment = λ r. refl; crossing = refl; side = refl; overlaps = refl }
+    go false = record { interval = λ p. refl; part = λ p. refl; now = refl; commitment = λ r. refl; crossing = refl; side = refl; overlaps = refl }
 
 reset_same : (s : State) → s.trip ≡ None → IsSame s (reset s)
 reset_same s dark = go (is_some s.trip) (ap is_some dark)
   where
     go : (b : Bool) → b ≡ false → IsSame s (if b then restarted s else s)
     go true h = absurd (true≢false h)
-    go false h = record { interval = λ p. refl; part = λ p. refl; now = refl; commitment = λ r. refl; crossing = refl; side = refl }
+    go false h = record { interval = λ p. refl; part = λ p. refl; now = refl; commitment = λ r. refl; crossing = refl; side = refl; overlaps = refl }
 
 committed_same : (s : State) → IsSame s (committed s)
 committed_same s = go (commit.forgets_last_phases s.plan s.desk.edits)
   where
-    go : (b : Bool) → IsSame s (record {
-      now = s.now;
+    go : (b : Bool) → IsSame s (record s {
       plan = desk.committed_plan s.plan s.desk;
       desk = desk.after_commit;
-      pattern = s.pattern;
-      correction = s.correction;
-      start_moment = s.start_moment;
-      detectors = s.detectors;
-      memories = s.memories;
-      phases = s.phases;
       rings = if b then rings.forgotten s.rings else s.rings;
-      preempts = s.preempts;
-      lamp = s.lamp;
-      trip = s.trip;
     })
-    go true = record { interval = λ p. refl; part = λ p. refl; now = refl; commitment = λ r. refl; crossing = refl; side = refl }
-    go false = record { interval = λ p. refl; part = λ p. refl; now = refl; commitment = λ r. refl; crossing = refl; side = refl }
+    go true = record { interval = λ p. refl; part = λ p. refl; now = refl; commitment = λ r. refl; crossing = refl; side = refl; overlaps = refl }
+    go false = record { interval = λ p. refl; part = λ p. refl; now = refl; commitment = λ r. refl; crossing = refl; side = refl; overlaps = refl }
 
 -- an input is a tick, or leaves intervals, parts and the tick number
 pub data Goes (s : State) (i : Input) : Type 0 where
@@ -109,7 +100,7 @@ goes s (inputs.Tick row) dark = ticks row refl
 goes s (inputs.Fault lamp) dark = stays refl (lit_same s lamp)
 goes s inputs.Reset dark = stays refl (reset_same s dark)
 goes s (inputs.Commit station) dark = stays refl (committed_same s)
-goes s i dark = stays refl (record { interval = λ p. refl; part = λ p. refl; now = refl; commitment = λ r. refl; crossing = refl; side = refl })
+goes s i dark = stays refl (record { interval = λ p. refl; part = λ p. refl; now = refl; commitment = λ r. refl; crossing = refl; side = refl; overlaps = refl })
 
 -- ## Phases after a tick
 

@@ -1,25 +1,24 @@
--- What a command leaves where the schedule acts, its parts and `pattern` commands leave where it does not.
+-- What a command leaves where the schedule acts, its parts, and `pattern` and `omit` commands, leave where it does not.
 use Rattle.std.proofs.Common.{◌≡◌, ℕ, zero, suc, List, [], ◌∷◌, ◌++◌, Option, Some, None, refl, ap, ◌∙◌, subst, inl, inr}
 use Rattle.tsb_step.specs.tsb_types.declared.refusal.Refusal.{Refusal}
 use Rattle.tsb_step.specs.tsb_machine.declared.commands.Answer.{Answer}
 use Rattle.tsb_step.specs.tsb_machine.declared.commands.Answer.TheVariants.{Took}
 use Rattle.tsb_step.specs.tsb_machine.declared.commands.MachineCommand.TheVariants.{Apply}
 use Rattle.tsb_step.specs.declared.inputs.Input.{Input}
-use Rattle.tsb_step.specs.declared.inputs.Input.TheVariants.{Pattern}
 use Rattle.tsb_step.specs.Play.{Cmd, IsRight, remaining_after}
 use Rattle.tsb_step.specs.Runs.{replay}
 use Rattle.tsb_dialog.specs.Said.{with_feed}
-use Rattle.tsb_text.specs.Answers.{GoesUnless, Leads, Setup, line_in, follower, follower_of, next_tick, refused_after, told}
+use Rattle.tsb_text.specs.Answers.{GoesUnless, Leads, Setup, line_in, followers, followers_of, next_tick, refused_after, told}
 use Rattle.tsb_text.specs.Obeys.{AsksOnce, TakesTicks, Ticked, before_line, news, news_of, nothing_besides, or_refusal, refusal_in, trail, trail_of}
 use Rattle.tsb_text.specs.declared.task.Task.{Task}
 use Rattle.tsb_text.specs.declared.task.Task.TheVariants.{Ask, Quit, Show, Ticks}
 use Rattle.tsb_text.specs.recording.Leaves.{LeavesOf}
 use Rattle.tsb_laws.specs.Schedules.{ArePartsOf, IsPart, LeaveAll, quiet}
-use Rattle.tsb_laws.proofs.schedules.FollowLemmas.{IsPattern, follows-pattern}
+use Rattle.tsb_laws.proofs.schedules.FollowLemmas.{AreSelections, IsSelection, follows-selections}
 
 -- ## Where the schedule does not act
 
-quiet-alone : (given : Setup) (is new : List Input) (cmd : Cmd) (a : Answer) → Leads (quiet given) new (follower_of (quiet given) is cmd a) None new
+quiet-alone : (given : Setup) (is new : List Input) (cmd : Cmd) (a : Answer) → Leads (quiet given) new (followers_of (quiet given) is cmd a) None new
 quiet-alone given is new (Apply i) Took = (refl, refl)
 quiet-alone given is new (Apply i) a = (refl, refl)
 quiet-alone given is new cmd a = (refl, refl)
@@ -31,7 +30,7 @@ or-none (Some e) = refl
 -- the text of the answer
 asked-text : Setup → List Input → Cmd → Answer → List ℕ
 asked-text given is cmd a =
-    (before_line [] a (news_of nothing_besides.tells (quiet given) is cmd) ++ trail_of nothing_besides.tells (quiet given) is cmd a None)
+    (before_line [] a (news_of nothing_besides.tells (quiet given) is cmd) ++ trail_of nothing_besides.tells (quiet given) is cmd a (remaining_after given.plan is cmd a))
     ++ (with_feed (told given.is_wide cmd a (replay given.plan (remaining_after given.plan is cmd a))) ++ refused_after [] None)
 
 quiet-asks : (given : Setup) (is : List Input) (cmd : Cmd) (a : Answer) → IsRight given.plan is cmd a → LeavesOf (quiet given) is (Ask cmd) (refusal_in a) (remaining_after given.plan is cmd a)
@@ -43,7 +42,7 @@ quiet-asks given is cmd a right = (
 
 tick-text : Setup → List Input → List ℕ
 tick-text given is =
-    (news nothing_besides.tells (quiet given) is (next_tick given is) ++ trail nothing_besides.tells (quiet given) (next_tick given is ∷ is) None None)
+    (news nothing_besides.tells (quiet given) is (next_tick given is) ++ trail nothing_besides.tells (quiet given) (next_tick given is ∷ is) [] (next_tick given is ∷ is))
     ++ (with_feed (line_in given.is_wide (replay given.plan (next_tick given is ∷ is))) ++ (refused_after [] None ++ []))
 
 quiet-ticks : (given : Setup) (is : List Input) → IsRight given.plan is (Apply (next_tick given is)) Took → LeavesOf (quiet given) is (Ticks 1) None (next_tick given is ∷ is)
@@ -65,26 +64,29 @@ all-before given t [] is mid new parts same rest = subst (λ (l : List Input). P
 all-before given t (u ∷ us) is mid new parts leave rest =
     one-before given t u is leave.1 new leave.0 parts.0 leave.2 (all-before given t us leave.1 mid new parts.1 leave.3 rest)
 
--- what follows an input leaves what a `pattern` command leaves, or nothing is left to do
-led-parts : (given : Setup) (t : Task) (is new : List Input) (next : Option Input) (stop : Option Refusal) → IsPattern next → Leads given is next stop new → PartsLeave given t is new
-led-parts given t is new None stop pattern leads = ([], tt, leads.1)
-led-parts given t is new (Some i) stop pattern (inl x) =
-    one-before given t (Ask (Apply (Pattern pattern.0))) is (Pattern pattern.0 ∷ is) new None (inr (inr (pattern.0, refl)))
-    (quiet-asks given is (Apply (Pattern pattern.0)) Took (subst (λ (j : Input). IsRight given.plan is (Apply j) Took) pattern.1 x.0))
-    ([], tt, x.2 ∙ ap (λ (j : Input). j ∷ is) pattern.1)
-led-parts given t is new (Some i) stop pattern (inr x) = ([], tt, x.left)
+-- a `pattern` or `omit` command is a part
+selection-part : (t : Task) (i : Input) → IsSelection i → IsPart t (Ask (Apply i))
+selection-part t i (inl pattern) = inr (inr (inl (pattern.0, ap (λ (j : Input). Ask (Apply j)) pattern.1)))
+selection-part t i (inr arrows) = inr (inr (inr (arrows.0, ap (λ (j : Input). Ask (Apply j)) arrows.1)))
+
+-- what follows an input leaves what such commands leave, one after another
+led-parts : (given : Setup) (t : Task) (is new next : List Input) (stop : Option Refusal) → AreSelections next → Leads given is next stop new → PartsLeave given t is new
+led-parts given t is new [] stop selections leads = ([], tt, leads.1)
+led-parts given t is new (i ∷ next) stop selections (inl x) =
+    one-before given t (Ask (Apply i)) is (i ∷ is) new None (selection-part t i selections.0) (quiet-asks given is (Apply i) Took x.0) (led-parts given t (i ∷ is) new next stop selections.1 x.1)
+led-parts given t is new (i ∷ next) stop selections (inr x) = ([], tt, x.left)
 
 -- ## What asks the bench once
 
-of-pattern : (given : Setup) (is : List Input) (cmd : Cmd) (a : Answer) → IsPattern (follower_of given is cmd a)
-of-pattern given is (Apply i) Took = follows-pattern given is i
-of-pattern given is (Apply i) a = tt
-of-pattern given is cmd a = tt
+of-selections : (given : Setup) (is : List Input) (cmd : Cmd) (a : Answer) → AreSelections (followers_of given is cmd a)
+of-selections given is (Apply i) Took = follows-selections given is i
+of-selections given is (Apply i) a = tt
+of-selections given is cmd a = tt
 
 ask-parts : (given : Setup) (is new : List Input) (cmd : Cmd) (text : List ℕ) (refusal : Option Refusal) → AsksOnce given nothing_besides is cmd text refusal new → PartsLeave given (Ask cmd) is new
 ask-parts given is new cmd text refusal x =
     one-before given (Ask cmd) (Ask cmd) is (remaining_after given.plan is cmd x.answer) new (refusal_in x.answer) (inl refl) (quiet-asks given is cmd x.answer x.right)
-    (led-parts given (Ask cmd) (remaining_after given.plan is cmd x.answer) new (follower_of given is cmd x.answer) x.stop (of-pattern given is cmd x.answer) x.left)
+    (led-parts given (Ask cmd) (remaining_after given.plan is cmd x.answer) new (followers_of given is cmd x.answer) x.stop (of-selections given is cmd x.answer) x.left)
 
 -- ## Ticks
 
@@ -111,7 +113,7 @@ rest-parts given n mid new rest (Some e) refusal on goes = ([], tt, goes.2)
 tick-parts : (given : Setup) (n : ℕ) (is mid new : List Input) (text rest : List ℕ) (stop : Option Refusal) → Ticked given nothing_besides is text rest stop mid → PartsLeave given (Ticks (suc n)) mid new → PartsLeave given (Ticks (suc n)) is new
 tick-parts given n is mid new text rest stop x later =
     let tick : Input = next_tick given is in
-    let led : PartsLeave given (Ticks (suc n)) (tick ∷ is) mid = led-parts given (Ticks (suc n)) (tick ∷ is) mid (follower given is tick) stop (follows-pattern given is tick) x.leads in
+    let led : PartsLeave given (Ticks (suc n)) (tick ∷ is) mid = led-parts given (Ticks (suc n)) (tick ∷ is) mid (followers given is tick) stop (follows-selections given is tick) x.leads in
     one-before given (Ticks (suc n)) (Ticks 1) is (tick ∷ is) new None (inr (inl (suc n, 1, refl, refl))) (quiet-ticks given is x.right)
     (all-before given (Ticks (suc n)) led.0 (tick ∷ is) mid new led.1 led.2 later)
 

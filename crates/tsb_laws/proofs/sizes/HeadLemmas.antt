@@ -1,28 +1,28 @@
 -- What heads and the monitor make of a plan, where the overlaps that it has not include no phase.
-use Rattle.std.proofs.Common.{◌≡◌, ℕ, Bool, false, ◌&&◌, List, [], ◌∷◌, refl, ap, ◌∙◌}
+use Rattle.std.proofs.Common.{◌≡◌, ℕ, ◌+◌, ◌≤◌, ◌==◌, nat_lt, Bool, false, not, ◌&&◌, ◌||◌, List, [], ◌∷◌, Option, Some, None, is_some, refl, ap, ap₂, ◌∙◌}
 use Rattle.std.specs.List.{list_any}
+use Rattle.std.specs.Option.{option_map}
 use Rattle.std.proofs.Math.Path.{fun_ext}
 use Rattle.tsb_step.specs.tsb_types.declared.lamp.Aspect.{Aspect}
 use Rattle.tsb_step.specs.tsb_types.declared.limits.TheConstants.{OVERLAPS}
-use Rattle.tsb_step.specs.tsb_types.Lists.{run_from}
+use Rattle.tsb_step.specs.tsb_types.Lists.{among, first, run_from}
 use Rattle.tsb_step.specs.tsb_types.Sets.{names}
 use Rattle.tsb_step.specs.tsb_plan.declared.object.Object.TheVariants.{OverlapIncludedPhases}
-use Rattle.tsb_step.specs.tsb_plan.Parts.{is_included}
-use Rattle.tsb_step.specs.tsb_plan.Plan.{Plan, phases}
+use Rattle.tsb_step.specs.tsb_plan.Parts.{is_included, is_modifier, includes_none, is_arrow, trails}
+use Rattle.tsb_step.specs.tsb_plan.Plan.{Plan, phases, is_concurrent}
 use Rattle.tsb_step.specs.tsb_heads.Displays.{ordered}
-use Rattle.tsb_step.specs.tsb_heads.Heads.{Shown}
-use Rattle.tsb_step.specs.tsb_heads.Monitoring.{conflict_of, conflict, green_to_red}
+use Rattle.tsb_step.specs.tsb_heads.declared.monitor.Trip.TheVariants.{Conflict}
+use Rattle.tsb_step.specs.tsb_heads.Heads.{Heads, Shown}
+use Rattle.tsb_step.specs.tsb_heads.Monitoring.{has_right_of_way, is_green_arrow_of, has_green_arrow, conflict_of, conflict_by, conflict, green_to_red}
+use Rattle.tsb_step.specs.tsb_heads.Monitoring as monitor
+use Rattle.tsb_step.specs.tsb_overlap.Overlap.{Overlap, run_on, holds, is_held, may_flash, settled, next}
 use Rattle.tsb_step.specs.tsb_heads.Overlaps.{has_green_modifier, has_yellow_modifier, is_kept_green, is_on_yellow, is_on_last_yellow, is_lasted_through, lasts, some_lasts, overlap_head}
 use Rattle.tsb_step.proofs.tsb_types.SetLemmas.{names-zero}
 use Rattle.tsb_laws.specs.Sizes.{IsOfFewer, full}
 use Rattle.tsb_laws.proofs.sizes.LongerLemmas.{any-longer}
-use Rattle.tsb_laws.proofs.sizes.ReadLemmas.{none_included}
+use Rattle.tsb_laws.proofs.sizes.ReadLemmas.{none_included, no_type, no_trail_green}
 
 module _ (plan : Plan) where
-  pub conflict-same : conflict (full plan) ≡ conflict plan
-  unfolding conflict conflict_of
-  conflict-same = refl
-
   pub green_to_red-same : green_to_red (full plan) ≡ green_to_red plan
   unfolding green_to_red
   green_to_red-same = refl
@@ -72,3 +72,53 @@ unfolding some_lasts
 some_lasts-same plan few = fun_ext (λ s.
     ap (λ (f : Shown → ℕ → Bool). list_any (f s) (run_from 1 OVERLAPS)) (lasts-same plan)
     ∙ any-longer (lasts plan s) 1 plan.counts.overlaps OVERLAPS few.fewer.overlaps (λ o out. lasts-none plan s o (none_included plan few o out)))
+
+-- ## The monitor
+
+module _ (plan : Plan) (few : IsOfFewer plan) where
+  -- an overlap that is not there is no arrow, and does not trail
+  not-arrow : (o : ℕ) → 1 + plan.counts.overlaps ≤ o → is_arrow plan o ≡ false
+  not-arrow o out = ap (λ (t : ℕ). t == 2 && not (includes_none plan o)) (no_type plan few o out)
+
+  not-trailing : (o : ℕ) → 1 + plan.counts.overlaps ≤ o → trails plan o ≡ false
+  not-trailing o out = ap (λ (g : ℕ). not (g == 0) && not (includes_none plan o)) (no_trail_green plan few o out)
+
+  never-green : (heads : Heads) (p o : ℕ) → 1 + plan.counts.overlaps ≤ o → is_green_arrow_of plan heads p o ≡ false
+  never-green heads p o out = ap (λ (b : Bool). b && (is_modifier plan o p && monitor.is_green (heads.overlap o))) (not-arrow o out)
+
+  green_arrow-same : (heads : Heads) (p : ℕ) → has_green_arrow (full plan) heads p ≡ has_green_arrow plan heads p
+  unfolding has_green_arrow
+  green_arrow-same heads p =
+      ap (λ (b : Bool). among p (phases plan) && b)
+      (any-longer (is_green_arrow_of plan heads p) 1 plan.counts.overlaps OVERLAPS few.fewer.overlaps (λ o out. never-green heads p o out))
+
+  conflict_of-same : (heads : Heads) (p : ℕ) → conflict_of (full plan) heads p ≡ conflict_of plan heads p
+  unfolding conflict_of
+  conflict_of-same heads p =
+      ap (λ (f : ℕ → Bool). first f (phases plan)) (fun_ext (λ q.
+      ap₂ (λ (a b : Bool). nat_lt p q && ((has_right_of_way heads p || a) && ((has_right_of_way heads q || b) && not (is_concurrent plan p q))))
+      (green_arrow-same heads p) (green_arrow-same heads q)))
+
+  conflict_by-same : (heads : Heads) (found : Option ℕ) → conflict_by (full plan) heads found ≡ conflict_by plan heads found
+  conflict_by-same heads None = refl
+  conflict_by-same heads (Some p) = ap (λ (o : Option ℕ). option_map (λ q. Conflict p q) o) (conflict_of-same heads p)
+
+  pub conflict-same : conflict (full plan) ≡ conflict plan
+  unfolding conflict
+  conflict-same = fun_ext (λ heads.
+      conflict_by-same heads (first (λ p. is_some (conflict_of (full plan) heads p)) (phases plan))
+      ∙ ap (λ (f : ℕ → Bool). conflict_by plan heads (first f (phases plan))) (fun_ext (λ p. ap is_some (conflict_of-same heads p))))
+
+  -- ## Overlaps with intervals of their own
+
+  holds-none : (preempted : Bool) (f : ℕ → Overlap) (p o : ℕ) → 1 + plan.counts.overlaps ≤ o → holds plan preempted f p o ≡ false
+  holds-none preempted f p o out = rw (not-trailing o out) refl
+
+  pub is_held-same : is_held (full plan) ≡ is_held plan
+  unfolding is_held run_on
+  is_held-same = fun_ext (λ preempted. fun_ext (λ f. fun_ext (λ p.
+      any-longer (holds plan preempted f p) 1 plan.counts.overlaps OVERLAPS few.fewer.overlaps (λ o out. holds-none preempted f p o out))))
+
+  pub next-same : next (full plan) ≡ next plan
+  unfolding next run_on settled may_flash is_kept_green
+  next-same = refl

@@ -1,7 +1,7 @@
 -- What a plan gives of detectors, overlaps and preempts that it has not: nothing.
 use Rattle.std.proofs.Common.{◌≡◌, ℕ, ◌+◌, ◌<◌, ◌≤◌, ◌==◌, nat_le, Bool, false, ◌&&◌, None, List, refl, arith, ap}
 use Rattle.std.proofs.lemmas.Bool.Decides.{nat_tests}
-use Rattle.tsb_step.specs.tsb_plan.declared.object.Object.TheVariants.{VehicleDetectorCallPhase, PedestrianDetectorCallPhase, OverlapIncludedPhases, OverlapModifierPhases, PreemptTrackPhase, PreemptDwellPhase, PreemptExitPhase}
+use Rattle.tsb_step.specs.tsb_plan.declared.object.Object.TheVariants.{VehicleDetectorCallPhase, PedestrianDetectorCallPhase, OverlapIncludedPhases, OverlapModifierPhases, OverlapTrailGreen, OverlapTrailYellow, OverlapType, PreemptTrackPhase, PreemptDwellPhase, PreemptExitPhase}
 use Rattle.tsb_step.specs.tsb_plan.Parts.{unless_zero, call_phase, pedestrian_call_phase}
 use Rattle.tsb_step.specs.tsb_plan.Plan.{Plan}
 use Rattle.tsb_laws.specs.Sizes.{IsOfFewer}
@@ -21,6 +21,15 @@ module _ (plan : Plan) (few : IsOfFewer plan) where
 
   pub no_modifiers : (o : ℕ) → 1 + plan.counts.overlaps ≤ o → plan.value OverlapModifierPhases o ≡ 0
   no_modifiers o out = few.placed OverlapModifierPhases o (beyond o plan.counts.overlaps out)
+
+  pub no_type : (o : ℕ) → 1 + plan.counts.overlaps ≤ o → plan.value OverlapType o ≡ 0
+  no_type o out = few.placed OverlapType o (beyond o plan.counts.overlaps out)
+
+  pub no_trail_green : (o : ℕ) → 1 + plan.counts.overlaps ≤ o → plan.value OverlapTrailGreen o ≡ 0
+  no_trail_green o out = few.placed OverlapTrailGreen o (beyond o plan.counts.overlaps out)
+
+  pub no_trail_yellow : (o : ℕ) → 1 + plan.counts.overlaps ≤ o → plan.value OverlapTrailYellow o ≡ 0
+  no_trail_yellow o out = few.placed OverlapTrailYellow o (beyond o plan.counts.overlaps out)
 
   pub no_track : (n : ℕ) → 1 + plan.counts.preempts ≤ n → plan.value PreemptTrackPhase n ≡ 0
   no_track n out = few.placed PreemptTrackPhase n (beyond n plan.counts.preempts out)

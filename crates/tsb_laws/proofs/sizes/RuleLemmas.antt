@@ -1,22 +1,23 @@
 -- The rules of a plan, where the detectors, overlaps and preempts that it has not call and name no phase.
-use Rattle.std.proofs.Common.{◌≡◌, ℕ, ◌==◌, Bool, true, false, not, ◌&&◌, ◌||◌, List, [], ◌∷◌, Option, None, refl, ap, ap₂, ◌∙◌}
+use Rattle.std.proofs.Common.{◌≡◌, ℕ, ◌+◌, ◌≤◌, ◌==◌, nat_le, Bool, true, false, not, ◌&&◌, ◌||◌, List, [], ◌∷◌, Option, None, refl, ap, ap₂, ◌∙◌}
 use Rattle.std.specs.List.{list_all}
 use Rattle.std.proofs.Math.Path.{fun_ext}
 use Rattle.tsb_step.specs.tsb_types.declared.limits.TheConstants.{VEHICLE_DETECTORS, PEDESTRIAN_DETECTORS, OVERLAPS, PREEMPTS}
+use Rattle.tsb_step.specs.tsb_types.Lists.{first}
 use Rattle.tsb_step.specs.tsb_types.Sets.{names}
-use Rattle.tsb_step.specs.tsb_plan.declared.object.Object.TheVariants.{OverlapIncludedPhases, OverlapModifierPhases, PreemptTrackPhase, PreemptDwellPhase, PreemptExitPhase}
-use Rattle.tsb_step.specs.tsb_plan.Parts.{call_phase, pedestrian_call_phase, is_minus_green_yellow, split_of, sequence_of, leads_and_lags}
+use Rattle.tsb_step.specs.tsb_plan.declared.object.Object.TheVariants.{OverlapIncludedPhases, OverlapModifierPhases, OverlapType, PreemptTrackPhase, PreemptDwellPhase, PreemptExitPhase}
+use Rattle.tsb_step.specs.tsb_plan.Parts.{call_phase, pedestrian_call_phase, is_modifier, includes_none, split_of, sequence_of, leads_and_lags}
 use Rattle.tsb_step.specs.tsb_plan.Plan.{Plan, phases, is_enabled}
 use Rattle.tsb_step.specs.tsb_coord.Coordinated.{force_off}
 use Rattle.tsb_step.specs.tsb_rules.declared.rules.Rule.{Rule}
-use Rattle.tsb_step.specs.tsb_rules.declared.rules.Rule.TheVariants.{K8, K9, K10, K11, K12, K13, K14, K15, K16, K17, K18, K19, K20, K21, K22, K23}
+use Rattle.tsb_step.specs.tsb_rules.declared.rules.Rule.TheVariants.{K8, K9, K10, K11, K12, K13, K14, K15, K16, K17, K18, K19, K20, K21, K22, K23, K28, K29}
 use Rattle.tsb_step.specs.tsb_rules.PatternRules.{some_and, each_pattern, patterns_are_whole, splits_hold_phases, splits_fill_cycles, coordinated_phases_agree, permissive_times_end, split_sum, side_sum, split_end, fills, coordinated_count, coordinated_agree}
-use Rattle.tsb_step.specs.tsb_rules.Rules.{unless, none_or, serves_pedestrians, names_enabled, names_concurrent, goes_with_all, has_concurrent_lists, dwells_or_is_empty, modifies_rightly, yellows_are_long, gaps_can_reduce, maximums_reach_minimums, recalled_pedestrians_walk, detectors_call_phases, pedestrian_detectors_call_walks, included_phases_are_enabled, preempts_are_concurrent, preempts_dwell, modifiers_are_right, limits_reach_minimums, broken_by_extensions, broken_by_parts, broken_by_phases, broken_by_rings, broken_by_schedule, first_broken}
+use Rattle.tsb_step.specs.tsb_rules.Rules.{unless, none_or, serves_pedestrians, names_enabled, names_concurrent, goes_with_all, has_concurrent_lists, dwells_or_is_empty, modifies_rightly, turns_alone, points_rightly, arrows_are_right, trails_rightly, trails_are_right, yellows_are_long, gaps_can_reduce, maximums_reach_minimums, recalled_pedestrians_walk, detectors_call_phases, pedestrian_detectors_call_walks, included_phases_are_enabled, preempts_are_concurrent, preempts_dwell, modifiers_are_right, limits_reach_minimums, broken_by_extensions, broken_by_overlaps, broken_by_parts, broken_by_phases, broken_by_rings, broken_by_schedule, first_broken}
 use Rattle.tsb_step.specs.tsb_rules.SequenceRules.{rises}
 use Rattle.tsb_step.proofs.tsb_types.SetLemmas.{names-zero}
 use Rattle.tsb_laws.specs.Sizes.{IsOfFewer, full}
 use Rattle.tsb_laws.proofs.sizes.LongerLemmas.{all-longer}
-use Rattle.tsb_laws.proofs.sizes.ReadLemmas.{no_call, no_walk_call, none_included, no_modifiers, no_track, no_dwell, no_exit}
+use Rattle.tsb_laws.proofs.sizes.ReadLemmas.{no_call, no_walk_call, none_included, no_modifiers, no_type, no_trail_green, no_trail_yellow, no_track, no_dwell, no_exit}
 
 module _ (plan : Plan) where
   pub rises-same : rises (full plan) ≡ rises plan
@@ -128,7 +129,22 @@ module _ (plan : Plan) (few : IsOfFewer plan) where
 
       right : (o : ℕ) → names_enabled plan (plan.value OverlapModifierPhases o) ≡ true → plan.value OverlapModifierPhases o ≡ 0 → modifies_rightly plan o ≡ true
       right o enabled none =
-          ap₂ (λ (a : Bool) (v : ℕ). a && (is_minus_green_yellow plan o || v == 0)) enabled none ∙ or-true (is_minus_green_yellow plan o)
+          ap₂ (λ (a : Bool) (v : ℕ). a && (not (plan.value OverlapType o == 0) || v == 0)) enabled none ∙ or-true (not (plan.value OverlapType o == 0))
+
+  k28 : arrows_are_right (full plan) ≡ arrows_are_right plan
+  k28 = all-longer (points_rightly plan) 1 plan.counts.overlaps OVERLAPS few.fewer.overlaps (λ o out. right o out)
+    where
+      right : (o : ℕ) → 1 + plan.counts.overlaps ≤ o → points_rightly plan o ≡ true
+      right o out =
+          ap (λ (t : ℕ). not (t == 2) || (not (includes_none plan o) && turns_alone plan o (first (is_modifier plan o) (phases plan)))) (no_type plan few o out)
+
+  k29 : trails_are_right (full plan) ≡ trails_are_right plan
+  k29 = all-longer (trails_rightly plan) 1 plan.counts.overlaps OVERLAPS few.fewer.overlaps (λ o out. right o out)
+    where
+      right : (o : ℕ) → 1 + plan.counts.overlaps ≤ o → trails_rightly plan o ≡ true
+      right o out =
+          ap₂ (λ (y g : ℕ). (y == 0 || nat_le 30 y) && (g == 0 || (not (y == 0) && plan.value OverlapType o == 0)))
+          (no_trail_yellow plan few o out) (no_trail_green plan few o out)
 
   broken_by_phases-same : broken_by_phases (full plan) ≡ broken_by_phases plan
   unfolding broken_by_phases
@@ -168,11 +184,16 @@ module _ (plan : Plan) (few : IsOfFewer plan) where
       (unless (permissive_times_end plan) K23
       None))) k21
 
+  broken_by_overlaps-same : broken_by_overlaps (full plan) ≡ broken_by_overlaps plan
+  unfolding broken_by_overlaps
+  broken_by_overlaps-same = ap₂ (λ (a b : Bool). unless a K28 (unless b K29 None)) k28 k29
+
   pub first_broken-same : first_broken (full plan) ≡ first_broken plan
   unfolding first_broken
   first_broken-same =
       rw (
         broken_by_extensions-same,
+        broken_by_overlaps-same,
         broken_by_parts-same,
         broken_by_phases-same,
         broken_by_rings-same plan,

@@ -112,13 +112,13 @@ pub record IsSmall (n : ℕ) (counts : Counts) (s : State) : Type 0 where
 -- ## One input
 
 module _ (s : State) where
-  lamp-same : (lamp : Option Lamp) → with_lamp lamp (full_state s) ≡ full_state (with_lamp lamp s)
-  lamp-same lamp = go (is_some s.trip)
+  lamp-same : IsOfFewer s.plan → (lamp : Option Lamp) → with_lamp lamp (full_state s) ≡ full_state (with_lamp lamp s)
+  lamp-same few lamp = go (is_some s.trip)
     where
       go : (b : Bool) → (if b then record (full_state s) { lamp = lamp } else watched (full_state s) (record (full_state s) { lamp = lamp }))
           ≡ full_state (if b then record s { lamp = lamp } else watched s (record s { lamp = lamp }))
       go true = refl
-      go false = watched-same s (record s { lamp = lamp })
+      go false = watched-same s (record s { lamp = lamp }) few
 
   reset-same : reset (full_state s) ≡ full_state (reset s)
   reset-same = go (is_some s.trip)
@@ -160,7 +160,7 @@ module _ (n : ℕ) (counts : Counts) (s : State) (small : IsSmall n counts s) wh
   step-same (inputs.Tick row) = ticked-same s row small.plan
   step-same (inputs.Pattern m) = pattern-same s m
   step-same (inputs.Clock m) = clock-same s m
-  step-same (inputs.Fault lamp) = lamp-same s lamp
+  step-same (inputs.Fault lamp) = lamp-same s small.plan lamp
   step-same inputs.Reset = reset-same s
   step-same (inputs.Verify station) = ap (λ rule. record (full_state s) { desk = desk.after_check rule s.desk }) found-same
   step-same (inputs.Commit station) = committed-same

@@ -11,6 +11,8 @@ use Rattle.tsb_step.specs.tsb_calls.Settled as settled
 use Rattle.tsb_step.specs.tsb_detect.Detector.{Detector}
 use Rattle.tsb_step.specs.tsb_heads.Displays.{flashing, laid_over}
 use Rattle.tsb_step.specs.tsb_heads.Heads.{Heads, Shown}
+use Rattle.tsb_step.specs.tsb_overlap.Overlap as overlaps
+use Rattle.tsb_step.specs.tsb_overlap.Overlap.{Overlap, is_held}
 use Rattle.tsb_step.specs.tsb_phase.Next as phase_next
 use Rattle.tsb_step.specs.tsb_phase.Pedestrian as pedestrian
 use Rattle.tsb_step.specs.tsb_phase.Phase as phase
@@ -24,12 +26,13 @@ use Rattle.tsb_step.specs.tsb_ring.Rings as rings
 use Rattle.tsb_step.specs.Signs.{shown, is_lasting, display, field, watched}
 use Rattle.tsb_step.specs.State.{State}
 use Rattle.tsb_step.specs.Step.{ticked}
-use Rattle.tsb_step.specs.Tick.{preempts_given, service, target, forced, recycle, calls_given, phases_given, phase_read, ready, gapped, rings_given, moves, moved, done, after_moves, gives_up, new_rings, next}
+use Rattle.tsb_step.specs.Tick.{preempts_given, service, target, forced, recycle, calls_given, phases_given, phase_read, ready, gapped, held, lets_go, rings_given, moves, moved, done, after_moves, gives_up, new_rings, after_rings, overlaps_given, next}
 use Rattle.tsb_laws.specs.Sizes.{IsOfFewer, full, full_state}
 use Rattle.tsb_laws.proofs.sizes.CallLemmas.{counted-same, pedestrian_memory-same, vehicle_memory-same}
 use Rattle.tsb_laws.proofs.sizes.CoordLemmas.{forces-same, lets_walk_again-same}
 use Rattle.tsb_laws.proofs.sizes.FoundLemmas as found
-use Rattle.tsb_laws.proofs.sizes.HeadLemmas.{conflict-same, green_to_red-same, ordered-same, some_lasts-same}
+use Rattle.tsb_laws.proofs.sizes.HeadLemmas.{conflict-same, green_to_red-same, ordered-same, some_lasts-same, is_held-same}
+use Rattle.tsb_laws.proofs.sizes.HeadLemmas as heads
 use Rattle.tsb_laws.proofs.sizes.PhaseLemmas.{is_gapped-same, is_ready-same}
 use Rattle.tsb_laws.proofs.sizes.PhaseLemmas as phase_lemmas
 use Rattle.tsb_laws.proofs.sizes.RingLemmas.{given_up-same}
@@ -51,9 +54,9 @@ module _ (s : State) where
   unfolding display
   display-same = ap (λ (h : Heads). if is_some s.trip then flashing h else h) (ordered-same s.plan (shown s))
 
-pub watched-same : (a b : State) → watched (full_state a) (full_state b) ≡ full_state (watched a b)
+pub watched-same : (a b : State) → IsOfFewer b.plan → watched (full_state a) (full_state b) ≡ full_state (watched a b)
 unfolding watched
-watched-same a b = rw (field-same a, field-same b, conflict-same b.plan, green_to_red-same b.plan) refl
+watched-same a b few = rw (field-same a, field-same b, conflict-same b.plan few, green_to_red-same b.plan) refl
 
 -- ## What a tick finds
 
@@ -94,6 +97,15 @@ module _ (s : State) (row : Row) (few : IsOfFewer s.plan) where
       ap (λ (f : phase.Given → ℕ → phase.Phase → Bool). f (phases_given (full_state s) row) p (phase_read s p)) (is_ready-same s.plan)
       ∙ ap (λ (g : phase.Given). timing.is_ready s.plan g p (phase_read s p)) phases_given-same
 
+  held-same : (p : ℕ) → held (full_state s) row p ≡ held s row p
+  unfolding held
+  held-same p =
+      ap (λ (f : Bool → (ℕ → Overlap) → ℕ → Bool). f (is_some (service (full_state s) row)) s.overlaps p) (is_held-same s.plan few)
+      ∙ ap (λ (o : Option ℕ). is_held s.plan (is_some o) s.overlaps p) (found.service-same s row few)
+
+  lets_go-same : (p : ℕ) → lets_go (full_state s) row p ≡ lets_go s row p
+  lets_go-same p = ap₂ (λ (a b : Bool). a && not b) (found.over-same s row few p) (held-same p)
+
   rings_given-same : rings_given (full_state s) row ≡ rings_given s row
   unfolding rings_given
   rings_given-same =
@@ -103,7 +115,7 @@ module _ (s : State) (row : Row) (few : IsOfFewer s.plan) where
         over = clipped f;
         reverted = clipped g;
         target = target (full_state s) row;
-      }) (fun_ext (λ p. found.over-same s row few p)) (fun_ext (λ p. found.reverted-same s row few p))
+      }) (fun_ext (λ p. lets_go-same p)) (fun_ext (λ p. found.reverted-same s row few p))
       ∙ ap (λ (t : Option (ℕ → Bool)). record (rings_given s row) { target = t }) (found.target-same s row few)
 
   moves-same : moves (full_state s) row ≡ moves s row
@@ -186,8 +198,26 @@ module _ (s : State) (row : Row) (few : IsOfFewer s.plan) where
       then given_up s.plan t (after_moves (full_state s) row).rings else (after_moves (full_state s) row).rings) (found.target-same s row few)
       ∙ ap₂ (λ (b : Bool) (r : rings.State). if b then given_up s.plan (target s row) r else r) gives_up-same (ap (λ (a : State). a.rings) after_moves-same)
 
+  after_rings-same : after_rings (full_state s) row ≡ full_state (after_rings s row)
+  after_rings-same = ap₂ (λ (a : State) (r : rings.State). record a { rings = r }) after_moves-same new_rings-same
+
+  -- ## What overlaps see
+
+  seen-same : overlaps_given (full_state s) row ≡ overlaps_given s row
+  seen-same =
+      ap₂ (λ (a : State) (o : Option ℕ). record (overlaps_given s row) {
+        shown = shown a;
+        timer = λ p. (a.phases p).timer;
+        preempted = is_some o;
+      }) after_rings-same (found.service-same s row few)
+
+  overlaps-same : overlaps.next (full s.plan) (overlaps_given (full_state s) row) s.overlaps ≡ overlaps.next s.plan (overlaps_given s row) s.overlaps
+  overlaps-same =
+      ap (λ (f : overlaps.Given → (ℕ → Overlap) → ℕ → Overlap). f (overlaps_given (full_state s) row) s.overlaps) (heads.next-same s.plan few)
+      ∙ ap (λ (g : overlaps.Given). overlaps.next s.plan g s.overlaps) seen-same
+
   next-same : next (full_state s) row ≡ full_state (next s row)
-  next-same = ap₂ (λ (a : State) (r : rings.State). record a { rings = r }) after_moves-same new_rings-same
+  next-same = ap₂ (λ (a : State) (f : ℕ → Overlap). record a { overlaps = f }) after_rings-same overlaps-same
 
   pub ticked-same : ticked row (full_state s) ≡ full_state (ticked row s)
   ticked-same = go (is_some s.trip)
@@ -195,4 +225,4 @@ module _ (s : State) (row : Row) (few : IsOfFewer s.plan) where
       go : (b : Bool) → (if b then record (full_state s) { now = s.now + 1 } else (if b then next (full_state s) row else watched (full_state s) (next (full_state s) row)))
           ≡ full_state (if b then record s { now = s.now + 1 } else (if b then next s row else watched s (next s row)))
       go true = refl
-      go false = ap (watched (full_state s)) next-same ∙ watched-same s (next s row)
+      go false = ap (watched (full_state s)) next-same ∙ watched-same s (next s row) few

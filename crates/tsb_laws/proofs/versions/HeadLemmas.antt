@@ -1,5 +1,5 @@
 -- Heads show the same on the wide plan, and the monitor judges the same.
-use Rattle.std.proofs.Common.{◌≡◌, ℕ, ◌≤◌, ◌==◌, nat_lt, Bool, true, false, not, ◌&&◌, ◌||◌, if◌then◌else◌, Option, Some, None, is_some, refl, arith, ◌∙◌, ap}
+use Rattle.std.proofs.Common.{◌≡◌, ℕ, ◌≤◌, ◌==◌, nat_lt, Bool, true, false, not, ◌&&◌, ◌||◌, if◌then◌else◌, Option, Some, None, is_some, refl, arith, sym, ◌∙◌, ap, ap₂}
 use Rattle.std.specs.Option.{option_map}
 use Rattle.std.proofs.Math.Path.{fun_ext}
 use Rattle.std.proofs.lemmas.Bool.Decides.{nat_tests}
@@ -8,16 +8,18 @@ use Rattle.tsb_step.specs.tsb_types.declared.lamp.PedestrianAspect.TheVariants a
 use Rattle.tsb_step.specs.tsb_types.declared.lamp.Lamp.{Lamp}
 use Rattle.tsb_step.specs.tsb_types.declared.lamp.Lamp.TheVariants as lamps
 use Rattle.tsb_step.specs.tsb_types.Intervals.{is_green, is_yellow, is_red_clear}
-use Rattle.tsb_step.specs.tsb_types.Lists.{first}
-use Rattle.tsb_step.specs.tsb_plan.declared.object.Object.TheVariants.{OverlapIncludedPhases, OverlapModifierPhases, OverlapAcrossRings}
-use Rattle.tsb_step.specs.tsb_plan.Plan.{Plan, phases, ring_of}
-use Rattle.tsb_step.specs.tsb_plan.Parts.{is_included, is_modifier, overlaps_across_rings}
+use Rattle.tsb_step.specs.tsb_types.Lists.{among, first, run_from}
+use Rattle.tsb_step.specs.tsb_plan.declared.object.Object.TheVariants.{OverlapIncludedPhases, OverlapModifierPhases, OverlapAcrossRings, OverlapTrailGreen, OverlapType}
+use Rattle.tsb_step.specs.tsb_plan.Plan.{Plan, phases, ring_of, is_concurrent}
+use Rattle.tsb_step.specs.tsb_plan.Parts.{is_included, is_modifier, overlaps_across_rings, includes_none, is_timed}
 use Rattle.tsb_step.specs.tsb_rules.PatternRules.{some_and}
 use Rattle.tsb_step.specs.tsb_heads.declared.monitor.Trip.TheVariants.{GreenToRed}
 use Rattle.tsb_step.specs.tsb_heads.Heads.{Shown, Heads}
 use Rattle.tsb_step.specs.tsb_heads.Overlaps.{some_of, is_followed_in_ring, is_followed_across, is_followed, keeps_green, is_kept_green, is_on_yellow, has_green_modifier, has_yellow_modifier, is_on_last_yellow, overlap_head}
 use Rattle.tsb_step.specs.tsb_heads.Displays.{ordered, flashing, display, laid_over, field}
-use Rattle.tsb_step.specs.tsb_heads.Monitoring.{has_right_of_way, are_in_conflict, conflict_of, conflict_by, conflict, goes_red, green_to_red, judge}
+use Rattle.tsb_step.specs.tsb_heads.Monitoring.{has_right_of_way, is_green_arrow_of, has_green_arrow, has_way, are_in_conflict, conflict_of, conflict_by, conflict, goes_red, green_to_red, judge}
+use Rattle.tsb_step.specs.tsb_heads.Monitoring as monitor
+use Rattle.tsb_review.proofs.LoopLemmas.{any-none}
 use Rattle.tsb_laws.specs.Widened.{IsNarrow, widened, IsLampWithin}
 use Rattle.tsb_laws.proofs.versions.ListLemmas.{is_beyond, IsBeyondNarrow}
 use Rattle.tsb_laws.proofs.versions.PlanLemmas.{first-same, any-same, beyond-bound, beyond-narrow, not-enabled, names-none}
@@ -89,6 +91,14 @@ overlap_head-same plan s narrow =
       last_yellow-same plan s o narrow,
     ) refl)
 
+-- ## Overlaps with intervals of their own
+
+-- version 1 has no arrows, and no overlaps that trail
+pub untimed : (plan : Plan) → IsNarrow plan → (o : ℕ) → is_timed plan o ≡ false
+untimed plan narrow o =
+    ap₂ (λ (t g : ℕ). (t == 2 && not (includes_none plan o)) || (not (g == 0) && not (includes_none plan o)))
+    (narrow.placed OverlapType o refl) (narrow.placed OverlapTrailGreen o refl)
+
 -- ## Displays
 
 pub ordered-same : (plan : Plan) (s : Shown) → IsNarrow plan → ordered (widened plan) s ≡ ordered plan s
@@ -127,26 +137,50 @@ laid_over-dark (Some (lamps.Pedestrian q color)) heads low dark = record {
   pedestrian = λ p out. rw (other-head p q low out) (dark.pedestrian p out);
 }
 laid_over-dark (Some (lamps.Overlap o color)) heads low dark = record { vehicle = dark.vehicle; pedestrian = dark.pedestrian }
+laid_over-dark (Some (lamps.Arrow o)) heads low dark = record { vehicle = dark.vehicle; pedestrian = dark.pedestrian }
 
 pub field-dark : (plan : Plan) (s : Shown) (lamp : Option Lamp) → IsNarrow plan → IsLampWithin lamp → AreDarkBeyond (field plan s lamp)
 field-dark plan s lamp narrow low = laid_over-dark lamp (ordered plan s) low (ordered-dark plan s narrow)
 
-no_way : (heads : Heads) (p : ℕ) → AreDarkBeyond heads → is_beyond p ≡ true → has_right_of_way heads p ≡ false
-no_way heads p dark out = rw (dark.vehicle p out, dark.pedestrian p out) refl
+-- where no overlap is of type 2 no arrow is green
+no_green_arrow : (plan : Plan) (heads : Heads) (p : ℕ) → ((o : ℕ) → plan.value OverlapType o ≡ 0) → has_green_arrow plan heads p ≡ false
+unfolding has_green_arrow
+no_green_arrow plan heads p none =
+    and-false (among p (phases plan)) _
+    (any-none (is_green_arrow_of plan heads p) at (run_from 1 plan.counts.overlaps))
+  where
+    at : (o : ℕ) → is_green_arrow_of plan heads p o ≡ false
+    at o =
+        ap (λ (t : ℕ). (t == 2 && not (includes_none plan o)) && (is_modifier plan o p && monitor.is_green (heads.overlap o))) (none o)
+
+way-same : (plan : Plan) (heads : Heads) (p : ℕ) → IsNarrow plan → has_way (widened plan) heads p ≡ has_way plan heads p
+way-same plan heads p narrow =
+    ap (λ (b : Bool). has_right_of_way heads p || b)
+    (no_green_arrow (widened plan) heads p (λ o. narrow.placed OverlapType o refl)
+    ∙ sym (no_green_arrow plan heads p (λ o. narrow.placed OverlapType o refl)))
+
+no_way : (plan : Plan) (heads : Heads) (p : ℕ) → IsNarrow plan → AreDarkBeyond heads → is_beyond p ≡ true → has_way plan heads p ≡ false
+no_way plan heads p narrow dark out =
+    rw (dark.vehicle p out, dark.pedestrian p out, no_green_arrow plan heads p (λ o. narrow.placed OverlapType o refl)) refl
+
+in_conflict-same : (plan : Plan) (heads : Heads) (p q : ℕ) → IsNarrow plan → are_in_conflict (widened plan) heads p q ≡ are_in_conflict plan heads p q
+in_conflict-same plan heads p q narrow =
+    ap₂ (λ (a b : Bool). nat_lt p q && (a && (b && not (is_concurrent plan p q)))) (way-same plan heads p narrow) (way-same plan heads q narrow)
 
 conflict_of-same : (plan : Plan) (heads : Heads) (p : ℕ) → IsNarrow plan → AreDarkBeyond heads →
     conflict_of (widened plan) heads p ≡ conflict_of plan heads p
 unfolding conflict_of
 conflict_of-same plan heads p narrow dark =
-    first-same plan (are_in_conflict plan heads p) (are_in_conflict plan heads p) narrow (λ q in_it. refl)
-    (λ q out. and-false (nat_lt p q) _ (and-false (has_right_of_way heads p) _ (rw (no_way heads q dark out) refl)))
+    first-same plan (are_in_conflict (widened plan) heads p) (are_in_conflict plan heads p) narrow (λ q in_it. in_conflict-same plan heads p q narrow)
+    (λ q out. in_conflict-same plan heads p q narrow
+    ∙ and-false (nat_lt p q) _ (and-false (has_way plan heads p) _ (rw (no_way plan heads q narrow dark out) refl)))
 
-all_dark : (plan : Plan) (heads : Heads) (p : ℕ) → AreDarkBeyond heads → is_beyond p ≡ true → (q : ℕ) → are_in_conflict plan heads p q ≡ false
-all_dark plan heads p dark out q = and-false (nat_lt p q) _ (rw (no_way heads p dark out) refl)
+all_dark : (plan : Plan) (heads : Heads) (p : ℕ) → IsNarrow plan → AreDarkBeyond heads → is_beyond p ≡ true → (q : ℕ) → are_in_conflict plan heads p q ≡ false
+all_dark plan heads p narrow dark out q = and-false (nat_lt p q) _ (rw (no_way plan heads p narrow dark out) refl)
 
-no-conflict : (plan : Plan) (heads : Heads) (p : ℕ) → AreDarkBeyond heads → is_beyond p ≡ true → conflict_of plan heads p ≡ None
+no-conflict : (plan : Plan) (heads : Heads) (p : ℕ) → IsNarrow plan → AreDarkBeyond heads → is_beyond p ≡ true → conflict_of plan heads p ≡ None
 unfolding conflict_of
-no-conflict plan heads p dark out = first-none (are_in_conflict plan heads p) (phases plan) (all_dark plan heads p dark out)
+no-conflict plan heads p narrow dark out = first-none (are_in_conflict plan heads p) (phases plan) (all_dark plan heads p narrow dark out)
 
 conflict_by-same : (plan : Plan) (heads : Heads) (o : Option ℕ) → IsNarrow plan → AreDarkBeyond heads →
     conflict_by (widened plan) heads o ≡ conflict_by plan heads o
@@ -159,7 +193,7 @@ conflict-same plan heads narrow dark =
     ap (conflict_by (widened plan) heads)
     (first-same plan (λ p. is_some (conflict_of (widened plan) heads p)) (λ p. is_some (conflict_of plan heads p)) narrow
     (λ p in_it. rw (conflict_of-same plan heads p narrow dark) refl)
-    (λ p out. rw (conflict_of-same plan heads p narrow dark, no-conflict plan heads p dark out) refl))
+    (λ p out. rw (conflict_of-same plan heads p narrow dark, no-conflict plan heads p narrow dark out) refl))
     ∙ conflict_by-same plan heads (first (λ p. is_some (conflict_of plan heads p)) (phases plan)) narrow dark
 
 green_to_red-same : (plan : Plan) (before after : Heads) → IsNarrow plan → AreDarkBeyond before →

@@ -1,6 +1,7 @@
 -- A plan text of version 2 is, with another number, one of version 3; and no version gives what came after it.
-use Rattle.std.proofs.Common.{zero, suc, ◌≡◌, ℕ, ◌+◌, ◌≤◌, nat_lt, cond, find, Bool, true, false, List, length, Some, Result, Ok, Err, codes, bytes_eq, if◌then◌else◌, Ordering, Less, Equal, Greater, nat_cmp, refl, sym, ◌∙◌, true≢false, subst, arith}
+use Rattle.std.proofs.Common.{zero, suc, ◌≡◌, ℕ, ◌+◌, ◌≤◌, nat_le, nat_lt, cond, find, Bool, true, false, List, length, Some, Result, Ok, Err, codes, bytes_eq, if◌then◌else◌, Ordering, Less, Equal, Greater, nat_cmp, refl, sym, ◌∙◌, true≢false, subst, arith}
 use Rattle.std.proofs.lemmas.Bool.{and_parts, le-ltb}
+use Rattle.std.proofs.lemmas.Bool.Decides.{nat_tests}
 use Rattle.std.proofs.lemmas.Map.Lookups.{exact_bytes}
 use Rattle.std.proofs.lemmas.Slice.Eq.{bytes_eq-Decides}
 use Rattle.std.specs.Fmt.{decimal}
@@ -10,16 +11,16 @@ use Rattle.serde_json.specs.Data.{Data, Members, no_members, member, number, put
 use Rattle.serde_json.specs.Find.{as_object}
 use Rattle.tsb_step.specs.tsb_types.Lists.{run_from}
 use Rattle.tsb_step.specs.tsb_plan.declared.object.Object.{Object}
-use Rattle.tsb_step.specs.tsb_plan.declared.object.Object.TheVariants.{PedestrianDetectorCallPhase}
+use Rattle.tsb_step.specs.tsb_plan.declared.object.Object.TheVariants.{PedestrianDetectorCallPhase, OverlapType}
 use Rattle.tsb_step.specs.tsb_plan.declared.version.Version.{Version}
 use Rattle.tsb_step.specs.tsb_plan.declared.version.Version.TheVariants.{Two, Three}
 use Rattle.tsb_step.specs.tsb_plan.Names.{object_named}
 use Rattle.tsb_step.specs.tsb_plan.Objects.{objects}
-use Rattle.tsb_step.specs.tsb_plan.Plan.{Plan, empty}
-use Rattle.tsb_step.specs.tsb_plan.Versions.{has_object, has_index_in, indices_in}
+use Rattle.tsb_step.specs.tsb_plan.Plan.{Plan, empty, with_value}
+use Rattle.tsb_step.specs.tsb_plan.Versions.{has_object, has_index_in, indices_in, greatest_in}
 use Rattle.tsb_step.proofs.tsb_plan.NameLemmas.{named_exact}
-use Rattle.tsb_plan_text.specs.PlanErrors.{Error, no_such_object, no_such_index, object_not_a_table, too_large}
-use Rattle.tsb_plan_text.specs.PlanText.{limit, data_plan, checked, reading, or_fault, index_named, with_entry, with_table, with_object, is_notes, with_notes, with_member, with_members}
+use Rattle.tsb_plan_text.specs.PlanErrors.{Error, no_such_object, no_such_index, object_not_a_table, not_a_whole_number, out_of_range, too_large}
+use Rattle.tsb_plan_text.specs.PlanText.{limit, data_plan, checked, reading, or_fault, index_named, whole_number, with_entry, with_table, with_object, is_notes, with_notes, with_member, with_members}
 use Rattle.tsb_plan_text.proofs.SaysLemmas.{or_ok, then_ok, if_ok}
 use Rattle.tsb_laws.specs.Texts.{IsOfVersion, renumbered}
 use Rattle.tsb_laws.proofs.versions.TextLemmas.{read-in}
@@ -47,11 +48,34 @@ few-in-two : (o : Object) → indices_in Two o ≤ indices_in Three o
 few-in-two PedestrianDetectorCallPhase = omega arith
 few-in-two o = omega arith
 
+-- and no greater value
+low-in-two : (o : Object) → greatest_in Two o ≤ greatest_in Three o
+low-in-two OverlapType = omega arith
+low-in-two o = omega arith
+
+value-later : (o : Object) (n : ℕ) (p q : Plan) (f : Error) → (if nat_le n (greatest_in Two o) then Ok p else Err f) ≡ Ok q →
+    (if nat_le n (greatest_in Three o) then Ok p else Err f) ≡ Ok q
+value-later o n p q f e = go (nat_le n (greatest_in Two o)) refl e
+  where
+    more : (a b : ℕ) → a ≤ b → nat_le n a ≡ true → nat_le n b ≡ true
+    more a b few it = grind (arith, nat_tests, few, it)
+
+    go : (b : Bool) → nat_le n (greatest_in Two o) ≡ b → (if b then Ok p else Err f) ≡ Ok q → (if nat_le n (greatest_in Three o) then Ok p else Err f) ≡ Ok q
+    go true it h = rw (more (greatest_in Two o) (greatest_in Three o) (low-in-two o) it) h
+    go false it h = absurd (grind (arith, h))
+
+entry-by : (o : Object) (text : List ℕ) (d : Data) (p q : Plan) (i n : ℕ) → index_named (indices_in Three o) text ≡ Some i → whole_number d ≡ Some n →
+    (if nat_le n (greatest_in Three o) then Ok (with_value p o i n) else Err (out_of_range o text)) ≡ Ok q → with_entry Three o text d p ≡ Ok q
+unfolding with_entry
+entry-by o text d p q i n at is e = rw (at, is) e
+
 entry-later : (o : Object) (text : List ℕ) (d : Data) (p q : Plan) → with_entry Two o text d p ≡ Ok q → with_entry Three o text d p ≡ Ok q
 unfolding with_entry
 entry-later o text d p q e =
     let i = or_ok (index_named (indices_in Two o) text) (no_such_index o text) _ q e in
-    rw (index-later (indices_in Two o) (indices_in Three o) text i.0 (few-in-two o) i.1) i.2
+    let n = or_ok (whole_number d) (not_a_whole_number o text) _ q i.2 in
+    entry-by o text d p q i.0 n.0 (index-later (indices_in Two o) (indices_in Three o) text i.0 (few-in-two o) i.1) n.1
+    (value-later o n.0 (with_value p o i.0 n.0) q (out_of_range o text) n.2)
 
 table-later : (o : Object) (table : Members) (p q : Plan) → with_table Two o table p ≡ Ok q → with_table Three o table p ≡ Ok q
 table-later o no_members p q e = e

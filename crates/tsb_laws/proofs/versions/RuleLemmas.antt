@@ -1,14 +1,16 @@
 -- The wide plan breaks the rule that the narrow one breaks first, or none with it.
-use Rattle.std.proofs.Common.{◌≡◌, ℕ, ◌≤◌, ◌==◌, nat_le, Bool, true, false, not, ◌&&◌, ◌||◌, refl, arith, sym, ◌∙◌, ap}
+use Rattle.std.proofs.Common.{◌≡◌, ℕ, ◌≤◌, ◌==◌, nat_le, Bool, true, false, not, ◌&&◌, ◌||◌, None, refl, arith, sym, ◌∙◌, ap}
 use Rattle.std.specs.List.{list_all}
 use Rattle.std.proofs.Math.Path.{fun_ext}
 use Rattle.std.proofs.lemmas.Bool.Decides.{nat_tests}
-use Rattle.tsb_step.specs.tsb_types.Lists.{run_from}
+use Rattle.tsb_step.specs.tsb_types.Lists.{first, run_from}
 use Rattle.tsb_step.specs.tsb_types.Sets.{names}
 use Rattle.tsb_step.proofs.tsb_types.SetLemmas.{names-zero}
-use Rattle.tsb_step.specs.tsb_plan.declared.object.Object.TheVariants.{PhaseSide, PhaseConcurrency, OverlapIncludedPhases, OverlapModifierPhases, PreemptTrackPhase, PreemptDwellPhase, PreemptExitPhase}
+use Rattle.tsb_step.specs.tsb_plan.declared.object.Object.TheVariants.{PhaseSide, PhaseConcurrency, OverlapIncludedPhases, OverlapModifierPhases, OverlapType, PreemptTrackPhase, PreemptDwellPhase, PreemptExitPhase}
+use Rattle.tsb_step.specs.tsb_plan.Parts.{includes_none, is_modifier}
 use Rattle.tsb_step.specs.tsb_plan.Plan.{Plan, phases, is_enabled, ring_of, side_of, is_concurrent}
-use Rattle.tsb_step.specs.tsb_rules.Rules.{some_enabled, is_placed, are_placed, unused_lists_are_empty, may_be_concurrent, names_across_rings, lists_name_across_rings, is_named_back, concurrency_is_symmetric, yellows_are_long, gaps_can_reduce, reaches_minimum, maximums_reach_minimums, recalled_pedestrians_walk, names_enabled, included_phases_are_enabled, goes_with_all, names_concurrent, has_concurrent_lists, preempts_are_concurrent, modifies_rightly, modifiers_are_right, limits_reach_minimums, broken_by_rings, broken_by_phases, broken_by_parts, broken_by_extensions, broken_by_schedule, first_broken}
+use Rattle.tsb_step.specs.tsb_rules.declared.rules.Rule.TheVariants.{K28, K29}
+use Rattle.tsb_step.specs.tsb_rules.Rules.{unless, turns_alone, points_rightly, arrows_are_right, trails_are_right, some_enabled, is_placed, are_placed, unused_lists_are_empty, may_be_concurrent, names_across_rings, lists_name_across_rings, is_named_back, concurrency_is_symmetric, yellows_are_long, gaps_can_reduce, reaches_minimum, maximums_reach_minimums, recalled_pedestrians_walk, names_enabled, included_phases_are_enabled, goes_with_all, names_concurrent, has_concurrent_lists, preempts_are_concurrent, modifies_rightly, modifiers_are_right, limits_reach_minimums, broken_by_rings, broken_by_phases, broken_by_parts, broken_by_extensions, broken_by_schedule, broken_by_overlaps, first_broken}
 use Rattle.tsb_laws.specs.Widened.{IsNarrow, widened}
 use Rattle.tsb_laws.proofs.versions.PlanLemmas.{any-same, all-same, beyond-narrow, not-enabled, names-none, not-concurrent}
 use Rattle.tsb_laws.proofs.versions.SequenceLemmas.{each_phase-same, first_sequence-same, other_sequences-same}
@@ -167,6 +169,21 @@ broken_by_schedule-same : (plan : Plan) → broken_by_schedule (widened plan) �
 unfolding broken_by_schedule
 broken_by_schedule-same plan = refl
 
+-- without arrows K28 asks for nothing
+points-rightly : (plan : Plan) (o : ℕ) → plan.value OverlapType o ≡ 0 → points_rightly plan o ≡ true
+points-rightly plan o none =
+    ap (λ (t : ℕ). not (t == 2) || (not (includes_none plan o) && turns_alone plan o (first (is_modifier plan o) (phases plan)))) none
+
+arrows-same : (plan : Plan) → IsNarrow plan → arrows_are_right (widened plan) ≡ arrows_are_right plan
+arrows-same plan narrow =
+    ap (λ (test : ℕ → Bool). list_all test (run_from 1 plan.counts.overlaps))
+    (fun_ext (λ o. points-rightly (widened plan) o (narrow.placed OverlapType o refl) ∙ sym (points-rightly plan o (narrow.placed OverlapType o refl))))
+
+broken_by_overlaps-same : (plan : Plan) → IsNarrow plan → broken_by_overlaps (widened plan) ≡ broken_by_overlaps plan
+unfolding broken_by_overlaps
+broken_by_overlaps-same plan narrow =
+    ap (λ (b : Bool). unless b K28 (unless (trails_are_right plan) K29 None)) (arrows-same plan narrow)
+
 -- ## All rules
 
 pub first_broken-same : (plan : Plan) → IsNarrow plan → first_broken (widened plan) ≡ first_broken plan
@@ -178,4 +195,5 @@ first_broken-same plan narrow =
       broken_by_parts-same plan narrow,
       broken_by_extensions-same plan narrow,
       broken_by_schedule-same plan,
+      broken_by_overlaps-same plan narrow,
     ) refl

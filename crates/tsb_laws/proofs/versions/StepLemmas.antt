@@ -20,7 +20,7 @@ use Rattle.tsb_step.specs.tsb_heads.declared.monitor.Trip.{Trip}
 use Rattle.tsb_step.specs.tsb_heads.Displays as heads
 use Rattle.tsb_step.specs.tsb_heads.Monitoring as monitor
 use Rattle.tsb_step.specs.declared.inputs.Input.{Input}
-use Rattle.tsb_step.specs.declared.inputs.Input.TheVariants.{Tick, Pattern, Switch, Fault, Reset, Begin, Set, Verify, Commit, Abort, Clock}
+use Rattle.tsb_step.specs.declared.inputs.Input.TheVariants.{Tick, Pattern, Switch, Fault, Reset, Begin, Set, Verify, Commit, Abort, Clock, Omit}
 use Rattle.tsb_step.specs.State.{State, start, restarted}
 use Rattle.tsb_step.specs.Tick.{next}
 use Rattle.tsb_step.specs.Signs.{shown, display, field, local, watched, unless_tripped}
@@ -238,6 +238,15 @@ step-narrow s (Clock m) is low = record {
   lamp = is.lamp;
 }
 step-narrow s (Switch n on) is low = record {
+  plan = is.plan;
+  edits = is.edits;
+  resting = is.resting;
+  commitments = is.commitments;
+  side = is.side;
+  crossing = is.crossing;
+  lamp = is.lamp;
+}
+step-narrow s (Omit list) is low = record {
   plan = is.plan;
   edits = is.edits;
   resting = is.resting;

@@ -1,5 +1,5 @@
 -- A tick makes the same of both benches.
-use Rattle.std.proofs.Common.{◌≡◌, ℕ, ◌+◌, ◌==◌, ◌≤◌, Bool, true, false, ◌&&◌, List, ◌++◌, Option, Some, None, option_map, refl, sym, ◌∙◌, ap, ap₂, inl, inr}
+use Rattle.std.proofs.Common.{◌≡◌, ℕ, ◌+◌, ◌==◌, ◌≤◌, Bool, true, false, not, ◌&&◌, List, ◌++◌, Option, Some, None, is_some, option_map, refl, sym, ◌∙◌, ap, ap₂, inl, inr}
 use Rattle.std.proofs.Math.Path.{fun_ext}
 use Rattle.std.proofs.lemmas.Bool.{cases_Bool}
 use Rattle.tsb_step.specs.tsb_cells.declared.timer.Timer.{Timer}
@@ -22,14 +22,17 @@ use Rattle.tsb_step.specs.tsb_ring.Rings.{Ring, number}
 use Rattle.tsb_step.specs.tsb_ring.Next as rings_next
 use Rattle.tsb_step.specs.tsb_ring.Moves.{is_ended, is_started}
 use Rattle.tsb_step.specs.tsb_coord.Coordinated.{serving_order}
+use Rattle.tsb_step.specs.tsb_overlap.Overlap.{Overlap}
 use Rattle.tsb_step.specs.State.{State, interval}
-use Rattle.tsb_step.specs.Tick.{new_service, service, hold, forced, recycle, omitted, green_timer, new_detectors, calls_given, set, callable, conflict, pedestrian_call, phases_given, phase_read, ready, over, reverted, gapped, walks_again, rings_given, moves, moved, done, gives_up, next, preempts_given, preempts_read}
+use Rattle.tsb_step.specs.Tick.{new_service, service, hold, forced, recycle, omitted, green_timer, new_detectors, calls_given, set, callable, conflict, pedestrian_call, phases_given, phase_read, ready, over, held, lets_go, reverted, gapped, walks_again, rings_given, moves, moved, done, gives_up, overlaps_given, next, preempts_given, preempts_read}
 use Rattle.tsb_step.proofs.GiveUpLemmas.{gives_none, keeps_rings}
+use Rattle.tsb_overlap.proofs.OwnLemmas.{untimed-stays, untimed-free}
 use Rattle.tsb_step.proofs.tsb_phase.MoveLemmas.{stays_at_power_up}
 use Rattle.tsb_laws.specs.Widened.{IsNarrow, widened, widened_state, AreOfTable, IsLampWithin}
 use Rattle.tsb_laws.proofs.versions.ListLemmas.{is_narrow, IsSameOnNarrow, IsBeyondNarrow}
 use Rattle.tsb_laws.proofs.versions.PlanLemmas.{zeros, beyond-narrow}
 use Rattle.tsb_laws.proofs.versions.CoordLemmas.{running-same, asks_hold-same, asks_omit-same, forces-same, lets_walk_again-same, serving_order-same}
+use Rattle.tsb_laws.proofs.versions.HeadLemmas.{untimed}
 use Rattle.tsb_laws.proofs.versions.PreemptLemmas as preempts
 use Rattle.tsb_laws.proofs.versions.CallLemmas as calls
 use Rattle.tsb_laws.proofs.versions.PhaseLemmas as phases
@@ -205,6 +208,20 @@ order_with_zeros s r = order s.plan s r ++ zeros
 order-same : (s : State) → IsNarrow s.plan → order (widened s.plan) s ≡ order_with_zeros s
 order-same s narrow = fun_ext (λ r. serving_order-same s.plan s.pattern (number r) narrow)
 
+-- no overlap holds a phase
+none-held : (s : State) (row : Row) (p : ℕ) → IsNarrow s.plan → held s row p ≡ false
+unfolding held
+none-held s row p narrow = untimed-free s.plan (is_some (service s row)) s.overlaps p (untimed s.plan narrow)
+
+wide-none-held : (s : State) (row : Row) (p : ℕ) → IsNarrow s.plan → held (widened_state s) row p ≡ false
+unfolding held
+wide-none-held s row p narrow =
+    untimed-free (widened s.plan) (is_some (service (widened_state s) row)) s.overlaps p (untimed s.plan narrow)
+
+lets_go-same : (s : State) (row : Row) → IsNarrow s.plan → lets_go (widened_state s) row ≡ lets_go s row
+lets_go-same s row narrow = fun_ext (λ p.
+    ap₂ (λ (f : ℕ → Bool) (b : Bool). f p && not b) (over-same s) (wide-none-held s row p narrow ∙ sym (none-held s row p narrow)))
+
 rings_given-same : (s : State) (row : Row) → IsNarrowState s →
     rings_given (widened_state s) row ≡ wants.wide_given (wide_omitted s) (rings_given s row)
 unfolding rings_given
@@ -214,7 +231,7 @@ rings_given-same s row is = λ i. record {
   callable = clipped (callable-same s row is.plan i);
   omitted = wide_omitted s;
   ready = clipped (ready-same s row is i);
-  over = clipped (over-same s i);
+  over = clipped (lets_go-same s row is.plan i);
   reverted = clipped (reverted-same s i);
   target = preempts.target-same s.plan (preempts_given s row) (preempts_read s) is.plan i;
 }
@@ -301,21 +318,28 @@ memories-same s row is =
     rw (calls_given-same s row is.plan, done-same s row is)
     (calls.memories-same s.plan (wide_omitted s) (calls_given s row) (done s row) s.memories is.plan)
 
--- the state at the next tick number, with other parts
-abbrev with_parts : State → (ℕ → Detector) → Memories → (ℕ → phase.Phase) → rings.State → Preempts → State
-with_parts s d m p r q = record s { now = s.now + 1; detectors = d; memories = m; phases = p; rings = r; preempts = q }
+-- no tick changes an overlap
+overlaps-same : (s : State) (row : Row) → IsNarrowState s → (next (widened_state s) row).overlaps ≡ (next s row).overlaps
+overlaps-same s row is = fun_ext (λ o.
+    untimed-stays (widened s.plan) (overlaps_given (widened_state s) row) s.overlaps o (untimed s.plan is.plan o)
+    ∙ sym (untimed-stays s.plan (overlaps_given s row) s.overlaps o (untimed s.plan is.plan o)))
 
-parts-same : (s : State) (d e : ℕ → Detector) (m n : Memories) (p o : ℕ → phase.Phase) (r t : rings.State) (q u : Preempts) →
-    d ≡ e → m ≡ n → p ≡ o → r ≡ t → q ≡ u → with_parts s d m p r q ≡ with_parts s e n o t u
-parts-same s d e m n p o r t q u f g h i j = rw (f, g, h, i, j) refl
+-- the state at the next tick number, with other parts
+abbrev with_parts : State → (ℕ → Detector) → Memories → (ℕ → phase.Phase) → rings.State → Preempts → (ℕ → Overlap) → State
+with_parts s d m p r q v = record s { now = s.now + 1; detectors = d; memories = m; phases = p; rings = r; preempts = q; overlaps = v }
+
+parts-same : (s : State) (d e : ℕ → Detector) (m n : Memories) (p o : ℕ → phase.Phase) (r t : rings.State) (q u : Preempts) (v w : ℕ → Overlap) →
+    d ≡ e → m ≡ n → p ≡ o → r ≡ t → q ≡ u → v ≡ w → with_parts s d m p r q v ≡ with_parts s e n o t u w
+parts-same s d e m n p o r t q u v w f g h i j k = rw (f, g, h, i, j, k) refl
 
 pub next-same : (s : State) (row : Row) → IsNarrowState s → next (widened_state s) row ≡ widened_state (next s row)
 next-same s row is =
     parts-same (widened_state s) (new_detectors (widened_state s) row) (new_detectors s row)
     (next (widened_state s) row).memories (next s row).memories (next (widened_state s) row).phases (next s row).phases
     (next (widened_state s) row).rings (next s row).rings (next (widened_state s) row).preempts (next s row).preempts
+    (next (widened_state s) row).overlaps (next s row).overlaps
     (detectors-same s row) (memories-same s row is) (phases-same s row is) (new_rings-same s row is)
-    (preempts.preempts-same s.plan (preempts_given s row) s.preempts is.plan)
+    (preempts.preempts-same s.plan (preempts_given s row) s.preempts is.plan) (overlaps-same s row is)
 
 pub next-narrow : (s : State) (row : Row) → IsNarrowState s → IsNarrowState (next s row)
 next-narrow s row is = record {

@@ -13,6 +13,7 @@ use Rattle.tsb_step.specs.tsb_phase.Phase as phase
 use Rattle.tsb_step.specs.tsb_phase.Moves.{unforced}
 use Rattle.tsb_step.specs.tsb_ring.Laws as rings
 use Rattle.tsb_step.specs.tsb_ring.Rings as ring
+use Rattle.tsb_step.specs.tsb_overlap.Laws as overlaps
 use Rattle.tsb_step.specs.tsb_preempt.Laws as preempts
 use Rattle.tsb_step.specs.tsb_preempt.Preempts.{is_preempt}
 use Rattle.tsb_step.specs.tsb_heads.Monitoring.{judge}
@@ -31,7 +32,7 @@ use Rattle.tsb_step.specs.State.{State, Tripped, start, restarted}
 use Rattle.tsb_step.specs.Step.{step, verdict, ticked, with_lamp, reset, found}
 use Rattle.tsb_step.specs.Tables.{place_refusal}
 use Rattle.tsb_step.specs.Tick as tick
-use Rattle.tsb_step.specs.Tick.{new_detectors, phases_given, moved, moves, rings_given, calls_given, done, preempts_given, green_timer}
+use Rattle.tsb_step.specs.Tick.{new_detectors, phases_given, moved, moves, rings_given, calls_given, done, preempts_given, overlaps_given, green_timer}
 use Rattle.tsb_step.proofs.EditLemmas.{same_phase_count, same_side_count, same_counts}
 use Rattle.tsb_step.proofs.GivenLemmas.{symmetric, given}
 use Rattle.tsb_step.proofs.GiveUpLemmas.{by_rings}
@@ -53,6 +54,7 @@ use Rattle.tsb_laws.proofs.way_back.DetectLemmas.{detectors-after, detectors-beg
 use Rattle.tsb_laws.proofs.way_back.CallLemmas.{IsSettled, memories-after, memories-begin}
 use Rattle.tsb_laws.proofs.way_back.PhaseLemmas.{RunsIn, runs-after, runs-begin, runs-unforced}
 use Rattle.tsb_laws.proofs.way_back.RingLemmas.{rings-given, none-started, none-ended, rings-after}
+use Rattle.tsb_laws.proofs.way_back.OverlapLemmas.{overlaps-after, overlaps-begin, overlaps-omitted}
 use Rattle.tsb_laws.proofs.way_back.PreemptLemmas.{preempts-after, preempts-begin, preempts-reset, preempts-switched}
 use Rattle.tsb_laws.proofs.way_back.TripLemmas.{tripped-at, judged-trip, clock-now, clock-stands, clock-runs, trip-stays}
 
@@ -65,6 +67,7 @@ pub record IsIn (c : ℕ) (s : State) : Type 0 where
   pub others : (p : ℕ) → is_phase p ≡ false → s.phases p ≡ phase.at_power_up
   pub rings : rings.IsInRange s.rings
   pub preempts : preempts.IsStateBy c s.preempts
+  pub overlaps : overlaps.IsStateBy c s.overlaps s.omitted
 
 -- how the local counter comes into step, and the clock, in the ranges of their cells
 pub record IsCounting (c : Correction) (moment : Option ℕ) : Type 0 where
@@ -134,6 +137,7 @@ module _ (s : State) (row : Row) (good : IsGood s) (held : IsHeld s.plan) (was :
     others = λ p out. stays_at_power_up s.plan (phases_given s row) (moved s row) p (s.phases p) (was.others p out) (starts-none p out) (ends-none p out);
     rings = rings-next;
     preempts = preempts-after s.plan (preempts_given s row) s.now s.preempts preempts-few row-none was.preempts;
+    overlaps = overlaps-after s.plan (overlaps_given s row) s.overlaps s.omitted s.now held was.overlaps;
   }
 
 -- with another trip, desk, lamp, plan or tick number
@@ -146,6 +150,7 @@ in-with c s now plan d pattern lamp trip was = record {
   others = was.others;
   rings = was.rings;
   preempts = was.preempts;
+  overlaps = was.overlaps;
 }
 
 by-clock : (c k : ℕ) (s : State) → c ≡ k → IsIn c s → IsIn k s
@@ -214,6 +219,7 @@ told-restarted s told = record {
     others = λ p out. refl;
     rings = rings-begin;
     preempts = preempts-reset (clock s) s.now s.preempts told.layers.preempts;
+    overlaps = overlaps-begin s.now;
   };
   counting = record { ahead = omega arith; midnight = omega arith; start = told.counting.start };
   lamp = tt;
@@ -239,6 +245,7 @@ told-pattern s n allowed told = record {
     others = λ p out. ap unforced (told.layers.others p out);
     rings = told.layers.rings;
     preempts = told.layers.preempts;
+    overlaps = told.layers.overlaps;
   };
   counting = record {
     ahead = ahead-selected s.plan n s.now (midnight_at s.start_moment s.now) (local s) allowed (cycles-within s.plan told.plan.bounded n);
@@ -261,6 +268,7 @@ told-clock s m typed early told = record {
     others = told.layers.others;
     rings = told.layers.rings;
     preempts = told.layers.preempts;
+    overlaps = told.layers.overlaps;
   };
   counting = record {
     ahead = ahead-clocked s.plan s.pattern s.correction s.now (midnight_at (Some (start_of m s.now)) s.now) (cycles-within s.plan told.plan.bounded);
@@ -283,6 +291,26 @@ told-switch s n on allowed told = record {
     others = told.layers.others;
     rings = told.layers.rings;
     preempts = preempts-switched s.plan (clock s) n on s.preempts allowed told.layers.preempts;
+    overlaps = told.layers.overlaps;
+  };
+  counting = told.counting;
+  lamp = told.lamp;
+  trip = told.trip;
+}
+
+told-omit : (s : State) (list : ℕ) → verdict s (inputs.Omit list) ≡ None → IsTold s → IsTold (step s (inputs.Omit list))
+unfolding step verdict
+told-omit s list allowed told = record {
+  plan = told.plan;
+  desk = told.desk;
+  layers = record {
+    detectors = told.layers.detectors;
+    memories = told.layers.memories;
+    phases = told.layers.phases;
+    others = told.layers.others;
+    rings = told.layers.rings;
+    preempts = told.layers.preempts;
+    overlaps = overlaps-omitted (clock s) s.overlaps s.omitted list allowed told.layers.overlaps;
   };
   counting = told.counting;
   lamp = told.lamp;
@@ -351,6 +379,7 @@ told-committed s station allowed good told =
         others = told.layers.others;
         rings = rings-forgotten s _ told.layers.rings;
         preempts = told.layers.preempts;
+        overlaps = told.layers.overlaps;
       };
       counting = told.counting;
       lamp = told.lamp;
@@ -372,6 +401,7 @@ told-step s (inputs.Verify station) allowed typed early good told = told-verifie
 told-step s (inputs.Commit station) allowed typed early good told = told-committed s station allowed good told
 told-step s (inputs.Abort station) allowed typed early good told = told-desk s _ desk-closed told
 told-step s (inputs.Clock m) allowed typed early good told = told-clock s m typed early told
+told-step s (inputs.Omit list) allowed typed early good told = told-omit s list allowed told
 
 told-start : (plan : Plan) → IsHeld plan → IsTold (start plan)
 told-start plan held = record {
@@ -384,6 +414,7 @@ told-start plan held = record {
     others = λ p out. refl;
     rings = rings-begin;
     preempts = preempts-begin 0;
+    overlaps = overlaps-begin 0;
   };
   counting = record { ahead = omega arith; midnight = omega arith; start = tt };
   lamp = tt;

@@ -37,10 +37,16 @@ use Rattle.tsb_step.specs.tsb_preempt.Cells as preempts
 use Rattle.tsb_step.specs.tsb_preempt.Cells.{service_in, preempts_in}
 use Rattle.tsb_step.proofs.tsb_preempt.ResetLemmas.{is_preempt-from}
 use Rattle.tsb_step.proofs.tsb_preempt.StateLemmas as preempt_states
+use Rattle.tsb_step.specs.tsb_overlap.declared.TheConstants.{CELLS as OVERLAP_CELLS}
+use Rattle.tsb_step.specs.tsb_overlap.Overlap as overlap
+use Rattle.tsb_step.specs.tsb_overlap.Cells as overlaps
+use Rattle.tsb_step.specs.tsb_overlap.Cells.{overlap_in}
+use Rattle.tsb_overlap.proofs.CellLemmas.{overlap_in-part}
+use Rattle.tsb_overlap.proofs.StateLemmas as overlap_states
 use Rattle.tsb_step.specs.tsb_heads.Monitoring.{judge}
 use Rattle.tsb_step.specs.tsb_transact.declared.TheConstants.{CELLS as DESK_CELLS}
 use Rattle.tsb_controller.specs.Whole.{All, AreFull, whole}
-use Rattle.tsb_step.specs.declared.first_cell.TheConstants.{DETECTORS, PHASES, PREEMPTS, ALL_CELLS}
+use Rattle.tsb_step.specs.declared.first_cell.TheConstants.{DETECTORS, PHASES, PREEMPTS, OVERLAPS, ALL_CELLS}
 use Rattle.tsb_step.specs.declared.inputs.Input.{Input}
 use Rattle.tsb_step.specs.declared.inputs.Input.TheVariants.{Tick}
 use Rattle.tsb_step.specs.Cells.{cells_of, clock}
@@ -54,7 +60,7 @@ use Rattle.tsb_step.specs.TimeLaws.{Rests}
 use Rattle.tsb_step.proofs.GoodLemmas.{good_ticked}
 use Rattle.tsb_step.proofs.RestLemmas.{rests_run}
 use Rattle.tsb_laws.specs.Runs.{IsRun}
-use Rattle.tsb_laws.specs.Timers.{Place, Change, Extend, Interval, Pedestrian, Passage, Conflict, Reduction, RedRevert, Delay, Served, Track, IsPlace, served, tracked, timer_of, cell_of, waits, HasNone}
+use Rattle.tsb_laws.specs.Timers.{Place, Change, Extend, Interval, Pedestrian, Passage, Conflict, Reduction, RedRevert, Delay, Served, Track, Overlap, IsPlace, served, tracked, timer_of, cell_of, waits, HasNone}
 use Rattle.tsb_laws.proofs.way_back.StepLemmas.{told-ticked}
 use Rattle.tsb_laws.proofs.way_back.ToldLemmas.{rows-of, cells-whole, IsOfRun, of-a-run, phases-ranged, layers-by, full-rows, cells-full}
 use Rattle.tsb_laws.proofs.way_back.TripLemmas.{clock-now, clock-stands, clock-runs}
@@ -67,10 +73,10 @@ skip xs ys n m k long e =
 
 module _ (a : All) (long : AreFull a) where
   abbrev behind-preempts : List ℕ
-  behind-preempts = a.monitor
+  behind-preempts = a.layers.overlaps ++ a.monitor
 
   abbrev from-preempts : List ℕ
-  from-preempts = a.layers.preempts ++ a.monitor
+  from-preempts = a.layers.preempts ++ behind-preempts
 
   abbrev from-pattern : List ℕ
   from-pattern = a.layers.pattern ++ from-preempts
@@ -114,6 +120,18 @@ module _ (a : All) (long : AreFull a) where
       ∙ skip a.layers.rings from-pattern RING_CELLS (RING_CELLS + (PATTERN_CELLS + k)) (PATTERN_CELLS + k) long.rings refl
       ∙ skip a.layers.pattern from-preempts PATTERN_CELLS (PATTERN_CELLS + k) k long.pattern refl
       ∙ get_or-append a.layers.preempts behind-preempts 0 k (omega (arith, below, long.preempts))
+
+  at-overlaps : (k : ℕ) → k < OVERLAP_CELLS → slice_index (whole a) (OVERLAPS + k) ≡ slice_index a.layers.overlaps k
+  at-overlaps k below =
+      skip a.plan from-desk PLAN_CELLS (OVERLAPS + k) (DESK_CELLS + (DETECTOR_CELLS + (CALL_CELLS + (PHASE_CELLS + (RING_CELLS + (PATTERN_CELLS + (PREEMPT_CELLS + k))))))) long.plan (omega arith)
+      ∙ skip a.desk from-detectors DESK_CELLS (DESK_CELLS + (DETECTOR_CELLS + (CALL_CELLS + (PHASE_CELLS + (RING_CELLS + (PATTERN_CELLS + (PREEMPT_CELLS + k))))))) (DETECTOR_CELLS + (CALL_CELLS + (PHASE_CELLS + (RING_CELLS + (PATTERN_CELLS + (PREEMPT_CELLS + k)))))) long.desk refl
+      ∙ skip a.layers.detectors from-calls DETECTOR_CELLS (DETECTOR_CELLS + (CALL_CELLS + (PHASE_CELLS + (RING_CELLS + (PATTERN_CELLS + (PREEMPT_CELLS + k)))))) (CALL_CELLS + (PHASE_CELLS + (RING_CELLS + (PATTERN_CELLS + (PREEMPT_CELLS + k))))) long.detectors refl
+      ∙ skip a.layers.calls from-phases CALL_CELLS (CALL_CELLS + (PHASE_CELLS + (RING_CELLS + (PATTERN_CELLS + (PREEMPT_CELLS + k))))) (PHASE_CELLS + (RING_CELLS + (PATTERN_CELLS + (PREEMPT_CELLS + k)))) long.calls refl
+      ∙ skip a.layers.phases from-rings PHASE_CELLS (PHASE_CELLS + (RING_CELLS + (PATTERN_CELLS + (PREEMPT_CELLS + k)))) (RING_CELLS + (PATTERN_CELLS + (PREEMPT_CELLS + k))) long.phases refl
+      ∙ skip a.layers.rings from-pattern RING_CELLS (RING_CELLS + (PATTERN_CELLS + (PREEMPT_CELLS + k))) (PATTERN_CELLS + (PREEMPT_CELLS + k)) long.rings refl
+      ∙ skip a.layers.pattern from-preempts PATTERN_CELLS (PATTERN_CELLS + (PREEMPT_CELLS + k)) (PREEMPT_CELLS + k) long.pattern refl
+      ∙ skip a.layers.preempts behind-preempts PREEMPT_CELLS (PREEMPT_CELLS + k) k long.preempts refl
+      ∙ get_or-append a.layers.overlaps a.monitor 0 k (omega (arith, below, long.overlaps))
 
 -- ## What the cell of a timer holds
 
@@ -204,6 +222,12 @@ module _ (c : ℕ) (row : List ℕ) (f : Preempts) (by : preempts.IsBy c row) (r
   keeps-tracked : Keeps c (slice_index row (5 + limits.PREEMPTS)) (tracked f.service)
   keeps-tracked = keeps c _ _ by.stage_timer (tracked-in ∙ ap (λ (g : Preempts). tracked g.service) read)
 
+keeps-overlap : (c : ℕ) (row : List ℕ) (f : ℕ → overlap.Overlap) → overlaps.IsBy c row → overlap_in c row ≡ f → (o : ℕ) → 1 ≤ o → o ≤ limits.OVERLAPS →
+    Keeps c (slice_index row (5 + o)) (f o).timer
+keeps-overlap c row f by read o from to =
+    keeps c _ _ (by.each o from to).timer
+    (ap (λ (x : overlap.Overlap). x.timer) (sym (overlap_in-part c row o from to) ∙ ap (λ (g : ℕ → overlap.Overlap). g o) read))
+
 moved-cell : (c cell other : ℕ) (t : Timer) → other ≡ cell → Keeps c cell t → Keeps c other t
 moved-cell c cell other t e k = record { holds = e ∙ k.holds; within = k.within }
 
@@ -230,6 +254,19 @@ module _ (s : State) (is : IsOfRun s) where
   preempt-there : (k : ℕ) (t : Timer) → k < PREEMPT_CELLS → Keeps (clock s) (slice_index row-preempts k) t → Keeps (clock s) (slice_index (cells_of s) (PREEMPTS + k)) t
   preempt-there k t below it =
       moved-cell (clock s) _ _ t (ap (λ (xs : List ℕ). slice_index xs (PREEMPTS + k)) (cells-whole s) ∙ at-preempts (rows-of s) (full-rows s is) k below) it
+
+  abbrev row-overlaps : List ℕ
+  row-overlaps = (rows-of s).layers.overlaps
+
+  overlap-there : (k : ℕ) (t : Timer) → k < OVERLAP_CELLS → Keeps (clock s) (slice_index row-overlaps k) t → Keeps (clock s) (slice_index (cells_of s) (OVERLAPS + k)) t
+  overlap-there k t below it =
+      moved-cell (clock s) _ _ t (ap (λ (xs : List ℕ). slice_index xs (OVERLAPS + k)) (cells-whole s) ∙ at-overlaps (rows-of s) (full-rows s is) k below) it
+
+  by-overlaps : overlaps.IsBy (clock s) row-overlaps
+  by-overlaps = (layers-by s is).overlaps
+
+  read-overlaps : overlap_in (clock s) row-overlaps ≡ s.overlaps
+  read-overlaps = (overlap_states.states-read (clock s) s.overlaps s.omitted is.told.layers.overlaps).overlaps
 
   by-detect : detect.IsBy (clock s) row-detect
   by-detect = (layers-by s is).detectors
@@ -261,6 +298,7 @@ module _ (s : State) (is : IsOfRun s) where
   place-keeps (Delay n) at = preempt-there (1 + n) _ (omega (arith, at.1)) (keeps-delay (clock s) row-preempts s.preempts by-preempts read-preempts n at.0 at.1)
   place-keeps Served at = preempt-there (4 + limits.PREEMPTS) _ (omega arith) (keeps-served (clock s) row-preempts s.preempts by-preempts read-preempts)
   place-keeps Track at = preempt-there (5 + limits.PREEMPTS) _ (omega arith) (keeps-tracked (clock s) row-preempts s.preempts by-preempts read-preempts)
+  place-keeps (Overlap o) at = overlap-there (5 + o) _ (omega (arith, at.1)) (keeps-overlap (clock s) row-overlaps s.overlaps by-overlaps read-overlaps o at.0 at.1)
 
 place-below : (w : Place) → IsPlace w → cell_of w < ALL_CELLS
 place-below (Change d) at = omega (arith, at.1)
@@ -274,6 +312,7 @@ place-below (RedRevert p) at = omega (arith, at.1)
 place-below (Delay n) at = omega (arith, at.1)
 place-below Served at = omega arith
 place-below Track at = omega arith
+place-below (Overlap o) at = omega (arith, at.1)
 
 -- ## Entries
 

@@ -19,6 +19,8 @@ use Rattle.tsb_step.proofs.tsb_ring.ToldLemmas as rings
 use Rattle.tsb_step.specs.tsb_coord.Cells.{pattern_cells}
 use Rattle.tsb_step.specs.tsb_coord.Laws.{IsSelectable, IsCorrectable}
 use Rattle.tsb_step.proofs.tsb_coord.CellLemmas as coord
+use Rattle.tsb_step.specs.tsb_overlap.Cells.{overlaps_cells, overlap_in}
+use Rattle.tsb_overlap.proofs.StateLemmas as overlaps
 use Rattle.tsb_step.specs.tsb_preempt.Cells.{preempts_cells, preempts_in}
 use Rattle.tsb_step.proofs.tsb_preempt.StateLemmas as preempts
 use Rattle.tsb_step.specs.tsb_transact.Cells.{desk_cells}
@@ -63,6 +65,7 @@ rows-of s = record {
     rings = rings_cells s.rings;
     pattern = pattern_cells s.pattern s.correction s.start_moment;
     preempts = preempts_cells (clock s) s.preempts;
+    overlaps = overlaps_cells (clock s) s.overlaps s.omitted;
   };
   monitor = monitor_cells s.lamp s.trip;
 }
@@ -71,7 +74,8 @@ pub cells-whole : (s : State) → cells_of s ≡ whole (rows-of s)
 unfolding cells_of
 cells-whole s =
     regrouped (plan_cells s.plan) (desk_cells s.desk) (detectors_cells (clock s) s.detectors) (memories_cells s.memories) (phases_cells (clock s) s.phases)
-    (rings_cells s.rings) (pattern_cells s.pattern s.correction s.start_moment) (preempts_cells (clock s) s.preempts) (monitor_cells s.lamp s.trip)
+    (rings_cells s.rings) (pattern_cells s.pattern s.correction s.start_moment) (preempts_cells (clock s) s.preempts)
+    (overlaps_cells (clock s) s.overlaps s.omitted) (monitor_cells s.lamp s.trip)
 
 -- ## Rows that the program can hold
 
@@ -136,6 +140,7 @@ module _ (s : State) (is : IsOfRun s) where
     rings = rings.states-by s.rings is.told.layers.rings;
     pattern = coord.pattern_by s.pattern s.correction s.start_moment selectable correctable is.told.counting.start;
     preempts = preempts.states-by (clock s) s.preempts is.told.layers.preempts;
+    overlaps = overlaps.states-by (clock s) s.overlaps s.omitted is.told.layers.overlaps;
   }
 
   pub rows-by : AreAllBy s.now (rows-of s)
@@ -161,6 +166,11 @@ module _ (s : State) (is : IsOfRun s) where
       ap (λ (t : Option Tripped). preempts_in (clock_at s.now t) (preempts_cells (clock s) s.preempts)) trip-read
       ∙ preempts.states-read (clock s) s.preempts is.told.layers.preempts
 
+  overlaps-read : overlap_in (clock_at s.now (trip_in (monitor_cells s.lamp s.trip))) (overlaps_cells (clock s) s.overlaps s.omitted) ≡ s.overlaps
+  overlaps-read =
+      ap (λ (t : Option Tripped). overlap_in (clock_at s.now t) (overlaps_cells (clock s) s.overlaps s.omitted)) trip-read
+      ∙ (overlaps.states-read (clock s) s.overlaps s.omitted is.told.layers.overlaps).overlaps
+
   pub rows-read : all_in s.now (rows-of s) ≡ s
   rows-read = λ i. record {
     now = s.now;
@@ -174,6 +184,8 @@ module _ (s : State) (is : IsOfRun s) where
     phases = phases-read i;
     rings = rings.states-read s.rings is.told.layers.rings i;
     preempts = preempts-read i;
+    overlaps = overlaps-read i;
+    omitted = (overlaps.states-read (clock s) s.overlaps s.omitted is.told.layers.overlaps).omits i;
     lamp = (monitor.state-read s.now s.lamp s.trip is.told.lamp is.told.trip).0 i;
     trip = trip-read i;
   }

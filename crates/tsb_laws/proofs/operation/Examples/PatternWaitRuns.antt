@@ -20,7 +20,7 @@ use Rattle.tsb_step.specs.Signs.{IsInStep}
 use Rattle.tsb_step.specs.Runs.{replay, AreTaken}
 use Rattle.tsb_step.specs.Laws.{IsConsistent, is_unlit}
 use Rattle.tsb_step.proofs.Examples.Scenes.{opened, vehicle}
-use Rattle.tsb_laws.specs.Stretches.{IsUntripped}
+use Rattle.tsb_laws.specs.Stretches.{IsUntripped, has_no_trails}
 use Rattle.tsb_laws.specs.ServedCalls.{longest_initial, IsFullyConcurrent}
 use Rattle.tsb_laws.specs.CoordinatedGreens.{HasGoneOn, is_pressed_in_pattern, IsForcedWithin, is_out, is_called_in_pattern, longest_in_pattern, TurnsInPattern}
 use Rattle.tsb_laws.proofs.safety.Examples.PlanFits.{Fits, consistent}
@@ -96,9 +96,14 @@ longest p =
     go true one two three four five = omega (arith, one, two, three, four, five)
     go false one two three four five = omega (arith, one, two, three, four, five)
 
+no_trails : has_no_trails round ≡ true
+unfolding opened round
+no_trails = refl
+
 turns_in_1 : TurnsInPattern round 1 30 100
 turns_in_1 = record {
   clears = record {
+    untrailed = no_trails;
     clearance = λ p. (let y = round_fits.bounded PhaseYellowChange p in let z = round_fits.bounded PhaseRedClear p in omega (arith, y, z));
     revert = λ p. (let own = round_fits.bounded PhaseRedRevert p in let unit = round_fits.bounded UnitRedRevert 1 in omega (arith, own, unit));
   };

@@ -14,7 +14,7 @@ use Rattle.tsb_step.specs.declared.inputs.Input.TheVariants.{Tick}
 use Rattle.tsb_step.specs.Runs.{replay, AreTaken}
 use Rattle.tsb_step.specs.Laws.{IsConsistent}
 use Rattle.tsb_step.proofs.Examples.Scenes.{opened}
-use Rattle.tsb_laws.specs.Stretches.{IsUntripped, has_held_since, largest}
+use Rattle.tsb_laws.specs.Stretches.{IsUntripped, has_held_since, largest, has_no_trails}
 use Rattle.tsb_laws.specs.PreemptChoices.{chooses, HasChosen, ChoiceTakesAtMost, time_to_chosen_dwell}
 use Rattle.tsb_laws.specs.PreemptDwells.{BeginsService, is_served}
 use Rattle.tsb_laws.specs.PreemptStages.{is_in_stage, serves_stage}
@@ -41,8 +41,13 @@ anew_fits : Fits limit anew.value
 unfolding anew
 anew_fits = values_alone_fit limit ((PreemptChoosesAnew, 1, 1) ∷ engine_values) refl
 
+anew_untrailed : has_no_trails anew ≡ true
+unfolding opened anew
+anew_untrailed = refl
+
 pub one_anew : AnEngine anew
 one_anew = record {
+  untrailed = anew_untrailed;
   consistent = consistent limit anew anew_count anew_breaks_none anew_fits;
   few = (let count = anew_count.0 in omega (arith, count));
   fits = anew_fits;

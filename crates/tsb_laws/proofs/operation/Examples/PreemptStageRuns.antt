@@ -1,5 +1,5 @@
 -- Runs from power-up in which a preempt is in its stages, and mistakes that the laws of these refuse.
-use Rattle.std.proofs.Common.{◌≡◌, ℕ, suc, ◌+◌, ◌*◌, ◌≤◌, Bool, true, false, not, if◌then◌else◌, min, List, [], ◌∷◌, ◌++◌, Some, None, refl, sym, ap, arith}
+use Rattle.std.proofs.Common.{◌≡◌, ◌∙◌, ℕ, suc, ◌+◌, ◌*◌, ◌≤◌, Bool, true, false, not, if◌then◌else◌, min, List, [], ◌∷◌, ◌++◌, Some, None, refl, sym, ap, arith}
 use Rattle.tsb_step.specs.tsb_cells.declared.timer.Timer.TheVariants.{Off, On}
 use Rattle.tsb_step.specs.tsb_types.Sets.{all_off, set_of_detectors}
 use Rattle.tsb_step.specs.tsb_types.declared.interval.Interval.{Interval}
@@ -27,12 +27,12 @@ use Rattle.tsb_step.specs.Tick.{rings_given}
 use Rattle.tsb_step.specs.Runs.{replay, AreTaken}
 use Rattle.tsb_step.specs.Laws.{IsConsistent, is_unlit}
 use Rattle.tsb_step.proofs.Examples.Scenes.{opened, after, preempt, resting}
-use Rattle.tsb_laws.specs.Stretches.{IsUntripped, has_held_since, largest}
+use Rattle.tsb_laws.specs.Stretches.{IsUntripped, has_held_since, has_no_trails, largest}
 use Rattle.tsb_laws.specs.CoordinatedGreens.{HasGoneOn}
 use Rattle.tsb_laws.specs.PreemptDwells.{BeginsService, is_served, has_arrived}
 use Rattle.tsb_laws.specs.PreemptStages.{is_in_stage, serves_stage, StageTakesAtMost, time_to_dwell}
 use Rattle.tsb_laws.proofs.safety.Examples.PlanFits.{Fits, consistent}
-use Rattle.tsb_laws.proofs.safety.Examples.TickRuns.{ticks, largest_then, all_taken, none_trips}
+use Rattle.tsb_laws.proofs.safety.Examples.TickRuns.{ticks, largest_then, all_taken, none_trail, none_trips}
 use Rattle.tsb_laws.proofs.safety.Examples.StretchRuns.{gone, goes_on, held_since, values_alone_fit}
 
 -- ## Preempt 1 dwells with 4, across the barrier from 1 and 2, and leaves by 2: one ring, and small times
@@ -66,6 +66,7 @@ limit o = greatest o
 -- what is asked of it
 pub record AnEngine (plan : Plan) : Type 0 where
   pub consistent : IsConsistent plan
+  pub untrailed : has_no_trails plan ≡ true
   pub few : plan.phase_count ≤ 16
   pub fits : Fits limit plan.value
 
@@ -81,8 +82,13 @@ engine_fits : Fits limit engine.value
 unfolding engine
 engine_fits = values_alone_fit limit engine_values refl
 
+engine_untrailed : has_no_trails engine ≡ true
+unfolding opened engine
+engine_untrailed = refl
+
 pub an_engine : AnEngine engine
 an_engine = record {
+  untrailed = engine_untrailed;
   consistent = consistent limit engine engine_count engine_breaks_none engine_fits;
   few = (let count = engine_count.0 in omega (arith, count));
   fits = engine_fits;
@@ -115,6 +121,7 @@ module _ (plan : Plan) (base : List Input) (it : Begun plan base) (n : ℕ) (low
 
   pub takes : StageTakesAtMost plan base 1 10 0 30 (ticks all_off n)
   takes = record {
+    untrailed = none_trail plan all_off base n (ap has_no_trails it.plan_is ∙ it.known.untrailed);
     green = (let a : plan.value PreemptMinimumGreen 1 ≤ 1 = fits.bounded PreemptMinimumGreen 1 in most (λ x. preempt_minimum_green x 1) 10 (ten (plan.value PreemptMinimumGreen 1) a));
     walk = λ p. sum (largest (λ x. walk_time x p (Some 1)) plan base (ticks all_off n)) (largest (λ x. clearance_time x p (Some 1)) plan base (ticks all_off n)) 0 0
         (most (λ x. walk_time x p (Some 1)) 0 (walks p)) (most (λ x. clearance_time x p (Some 1)) 0 (clears p));

@@ -24,7 +24,7 @@ use Rattle.tsb_step.specs.Runs.{replay, AreTaken}
 use Rattle.tsb_step.specs.Laws.{IsConsistent, is_unlit}
 use Rattle.tsb_step.proofs.GoodLemmas.{good_run}
 use Rattle.tsb_step.proofs.Examples.Scenes.{opened, vehicle, green}
-use Rattle.tsb_laws.specs.Stretches.{IsUntripped, has_held_since}
+use Rattle.tsb_laws.specs.Stretches.{IsUntripped, has_held_since, has_no_trails}
 use Rattle.tsb_laws.specs.ServedCalls.{is_pressed, HasBeenPressed, longest_maximum, longest_initial, IsDoneWithin, IsFullyConcurrent, is_waiting, HasWaited, longest_green, TurnsTakeAtMost, still_to_come, IsToCome, is_outside}
 use Rattle.tsb_laws.specs.CoordinatedGreens.{HasGoneOn}
 use Rattle.tsb_laws.proofs.safety.Examples.PlanFits.{Fits, consistent}
@@ -113,8 +113,13 @@ greens p = go (is_dynamic brisk p) (has_variable_initial brisk p)
         by false true one two three four five six = omega (arith, one, two, three, four, five, six)
         by false false one two three four five six = omega (arith, one, two, three, four, five, six)
 
+no_trails : has_no_trails brisk ≡ true
+unfolding opened brisk
+no_trails = refl
+
 takes : TurnsTakeAtMost brisk 30 10
 takes = record {
+  untrailed = no_trails;
   clearance = λ p. (let y = brisk_fits.bounded PhaseYellowChange p in let z = brisk_fits.bounded PhaseRedClear p in omega (arith, y, z));
   revert = λ p. (let own = brisk_fits.bounded PhaseRedRevert p in let unit = brisk_fits.bounded UnitRedRevert 1 in omega (arith, own, unit));
   green = greens;

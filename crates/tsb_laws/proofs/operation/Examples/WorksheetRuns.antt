@@ -11,8 +11,8 @@ use Rattle.tsb_step.specs.declared.inputs.Input.TheVariants.{Tick}
 use Rattle.tsb_step.specs.Runs.{replay, AreTaken}
 use Rattle.tsb_step.specs.Laws.{IsConsistent}
 use Rattle.tsb_step.proofs.Examples.Scenes.{opened}
-use Rattle.tsb_review.specs.Worksheet.{clearing, greatest, longest_entry, pedestrians_left}
-use Rattle.tsb_laws.specs.Stretches.{IsUntripped, has_held_since}
+use Rattle.tsb_review.specs.Worksheet.{clearing, greatest, held as times_held, longest_entry, pedestrians_left}
+use Rattle.tsb_laws.specs.Stretches.{IsUntripped, has_held_since, has_no_trails}
 use Rattle.tsb_laws.specs.PreemptDwells.{BeginsService}
 use Rattle.tsb_laws.specs.PreemptStages.{is_in_stage}
 use Rattle.tsb_laws.specs.PreemptWorksheets.{HasStayed, first_stage}
@@ -28,6 +28,7 @@ stayed plan base (suc n) is = (stayed plan base n is, plan_then plan all_off bas
 record Printed (plan : Plan) (is later : List Input) (row : Row) (n entry : ℕ) : Type 0 where
   consistent : IsConsistent plan
   few : plan.phase_count ≤ 16
+  untrailed : has_no_trails plan ≡ true
   taken : AreTaken plan (later ++ (Tick row ∷ is))
   untripped : IsUntripped plan (Tick row ∷ is) later
   stays : HasStayed plan plan (Tick row ∷ is) later
@@ -38,7 +39,7 @@ record Printed (plan : Plan) (is later : List Input) (row : Row) (n entry : ℕ)
 -- ## 4 is Green after 69 ticks of the 75 that the worksheet has
 
 prints_75 : longest_entry engine 1 ≡ 75
-unfolding opened engine greatest
+unfolding opened engine greatest times_held
 prints_75 = refl
 
 begins_in_dwell : first_stage engine 1 ≡ Dwell
@@ -49,6 +50,7 @@ a_printed_entry : Printed engine asked (ticks all_off 69) all_off 1 75
 a_printed_entry = record {
   consistent = an_engine.consistent;
   few = an_engine.few;
+  untrailed = an_engine.untrailed;
   taken = taken_for engine began begun_engine 69 (omega arith);
   untripped = untripped_for engine began begun_engine 69 (omega arith);
   stays = stayed engine began 69 begun_engine.plan_is;
@@ -60,7 +62,7 @@ a_printed_entry = record {
 -- ## Where it chooses anew, after 29 of 45
 
 prints_45 : longest_entry anew 1 ≡ 45
-unfolding opened anew greatest
+unfolding opened anew greatest times_held
 prints_45 = refl
 
 begins_in_dwell_anew : first_stage anew 1 ≡ Dwell
@@ -71,6 +73,7 @@ a_chosen_entry : Printed anew asked (ticks all_off 29) all_off 1 45
 a_chosen_entry = record {
   consistent = one_anew.consistent;
   few = one_anew.few;
+  untrailed = one_anew.untrailed;
   taken = taken_for anew began begun_anew 29 (omega arith);
   untripped = untripped_for anew began begun_anew 29 (omega arith);
   stays = stayed anew began 29 begun_anew.plan_is;
@@ -85,5 +88,5 @@ abbrev one_clearance : Plan → ℕ → ℕ
 one_clearance plan n = max (greatest plan (pedestrians_left plan n)) (preempt_minimum_green plan n + 1) + greatest plan (clearing plan) + 4
 
 would_print_45 : one_clearance engine 1 ≡ 45
-unfolding opened engine greatest
+unfolding opened engine greatest times_held
 would_print_45 = refl

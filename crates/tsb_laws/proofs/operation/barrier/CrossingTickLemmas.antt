@@ -26,6 +26,8 @@ use Rattle.tsb_step.proofs.tsb_phase.ReadLemmas.{is-red}
 use Rattle.tsb_laws.specs.CrossingGreens.{IsCalm}
 use Rattle.tsb_laws.proofs.safety.CrossingRingLemmas.{begins_no_more, starts_all, none_is_started, is_started_then, goes_on, is_over, side_goes, commitment_stays, WaitsFor, clearance_of, revert_of, waits_for_one}
 use Rattle.tsb_laws.proofs.safety.DueLemmas.{clipped_at}
+use Rattle.tsb_laws.specs.Stretches.{has_no_trails}
+use Rattle.tsb_laws.proofs.safety.UnheldLemmas.{told_over}
 use Rattle.tsb_laws.proofs.operation.step.AcrossLemmas.{GoesAcross, promised_red}
 use Rattle.tsb_laws.proofs.operation.step.PhaseTimeLemmas.{IsTimed, clears_down, not_yet_over, reverts_down, not_yet_reverted}
 use Rattle.tsb_laws.proofs.operation.step.PhaseLeftLemmas.{clear_left, back_left}
@@ -93,7 +95,7 @@ pub data Crosses (s after : State) (d m : ℕ) : Type 0 where
       Crosses s after d m
   has_crossed : after.rings.crossing ≡ None → after.rings.side ≡ d → ((r : Ring) → HasEntered s after r) → Crosses s after d m
 
-module _ (s : State) (row : Row) (good : IsGood s) (few : s.plan.phase_count ≤ 16) (calm : IsCalm s.plan (interval s) s.rings) (sided : IsSided s.plan (interval s) s.rings) (across : GoesAcross s.plan (interval s) s.rings) (timed : (p : ℕ) → IsTimed (s.phases p)) (d : ℕ) (way : s.rings.crossing ≡ Some d) where
+module _ (s : State) (row : Row) (good : IsGood s) (few : s.plan.phase_count ≤ 16) (untrailed : has_no_trails s.plan ≡ true) (calm : IsCalm s.plan (interval s) s.rings) (sided : IsSided s.plan (interval s) s.rings) (across : GoesAcross s.plan (interval s) s.rings) (timed : (p : ℕ) → IsTimed (s.phases p)) (d : ℕ) (way : s.rings.crossing ≡ Some d) where
   even : IsSymmetric s.plan
   even = symmetric s.plan good.plan.rules
 
@@ -142,7 +144,7 @@ module _ (s : State) (row : Row) (good : IsGood s) (few : s.plan.phase_count ≤
         go : WaitsFor s.plan s.rings (rings_given s row) (yellow_done s) even good.rings told d way → 1 ≤ m
         go (clearance_of p serves h) =
             let left_p = not_yet_over s p (yellow_change s.plan p) (red_clear s.plan p) (omega arith) (omega arith) (timed p) serves (calm.crosses d way p)
-            (sym (clipped_at (over s) s.plan p few (good.rings.listed p serves)) ∙ h) in
+            (sym (told_over s row p untrailed few (good.rings.listed p serves)) ∙ h) in
             let before = was.clears p in
             omega (arith, left_p, before)
         go (revert_of r c e h) =

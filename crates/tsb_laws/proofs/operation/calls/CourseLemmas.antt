@@ -214,7 +214,9 @@ module _ (free : Bool) (longest : ℕ → ℕ) (Lasts : View → ℕ → ℕ →
         on = enabled_run plan (later ++ base) ok taken.0;
         goes_across = across_run plan (later ++ base) ok taken.0;
         timed = timed_run plan (later ++ base) ok taken.0 dark;
+        untrailed = (clears_now later taken.0 on.0).untrailed;
         when_open = λ outside. record {
+          untrailed = (clears_now later taken.0 on.0).untrailed;
           good = good later taken.0 on.0;
           few = few_now (later ++ base);
           calm = calm_run plan (later ++ base) ok taken.0;

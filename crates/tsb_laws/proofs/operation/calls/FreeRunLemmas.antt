@@ -94,7 +94,7 @@ module _ (plan : Plan) (base : List Input) (q k h : ℕ) (ok : IsConsistent plan
   )
 
   clears : ClearsWithin (replay plan base).plan k
-  clears = record { clearance = takes.clearance; revert = takes.revert }
+  clears = record { untrailed = takes.untrailed; clearance = takes.clearance; revert = takes.revert }
 
   -- ## As a phase is still to come
 

@@ -18,6 +18,7 @@ use Rattle.tsb_step.proofs.GivenLemmas.{given}
 use Rattle.tsb_step.proofs.tsb_phase.ReadLemmas.{is-red}
 use Rattle.tsb_laws.specs.CrossingGreens.{IsCalm}
 use Rattle.tsb_laws.specs.ServedCalls.{times_on, place}
+use Rattle.tsb_laws.specs.Stretches.{has_no_trails}
 use Rattle.tsb_laws.proofs.safety.EnabledLemmas.{AreEnabled, callable_on}
 use Rattle.tsb_laws.proofs.safety.SideSoughtLemmas.{found_some, goes_to_other}
 use Rattle.tsb_laws.proofs.operation.step.AcrossLemmas.{GoesAcross}
@@ -36,6 +37,7 @@ use Rattle.tsb_laws.proofs.operation.calls.WayTickLemmas.{LessFor, not_begun, ou
 
 -- of the state that a tick finds and of the one that it leaves
 pub record IsOnWay (free : Bool) (longest : ℕ → ℕ) (Lasts : View → ℕ → ℕ → Type 0) (k h c : ℕ) (s : State) (row : Row) : Type 0 where
+  pub untrailed : has_no_trails s.plan ≡ true
   pub good : IsGood s
   pub few : s.plan.phase_count ≤ 16
   pub calm : IsCalm s.plan (interval s) s.rings
@@ -138,7 +140,7 @@ module _ (free : Bool) (longest : ℕ → ℕ) (Lasts : View → ℕ → ℕ →
 
   crossed : (d m : ℕ) → s.rings.crossing ≡ Some d → IsOver m (view free s) → Crosses s (after_moves s row) d m
   crossed d m way over =
-      crossing_tick s row it.good it.few it.calm it.sided it.goes_across it.timed d way m (record { clears = over.clears; reverts = over.reverts })
+      crossing_tick s row it.good it.few it.untrailed it.calm it.sided it.goes_across it.timed d way m (record { clears = over.clears; reverts = over.reverts })
 
   over_of : (m : ℕ) → IsOverIn m (after_moves s row) → IsOver m (view free (after_moves s row))
   over_of m over = record { clears = over.clears; reverts = over.reverts }

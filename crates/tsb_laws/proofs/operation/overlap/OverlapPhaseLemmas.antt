@@ -1,28 +1,25 @@
 -- An overlap that is green or yellow includes a phase that is in service. Proves `overlaps_go_with_phases`.
-use Rattle.std.proofs.Common.{◌≡◌, ℕ, ◌==◌, Bool, true, false, not, ◌&&◌, ◌||◌, if◌then◌else◌, is_some, refl, inl, inr}
-use Rattle.std.proofs.lemmas.Bool.{cases_Bool, and_parts, or_cases, false≢true}
-use Rattle.tsb_step.specs.tsb_types.declared.interval.Interval.{Interval}
-use Rattle.tsb_step.specs.tsb_types.declared.interval.Interval.TheVariants.{Red, Green, Yellow, RedClear}
-use Rattle.tsb_step.specs.tsb_types.declared.interval.PedestrianInterval.{PedestrianInterval}
-use Rattle.tsb_step.specs.tsb_types.declared.interval.PedestrianInterval.TheVariants.{DontWalk, Walk, PedestrianClear}
+use Rattle.std.proofs.Common.{◌≡◌, ℕ, Bool, true, false, not, ◌&&◌, ◌||◌, if◌then◌else◌, is_some, refl, sym, ap, ◌∙◌, inl, inr}
+use Rattle.std.proofs.lemmas.Bool.{and_parts, or_cases, false≢true}
 use Rattle.tsb_step.specs.tsb_types.declared.lamp.Aspect.TheVariants as aspects
-use Rattle.tsb_step.specs.tsb_types.declared.lamp.PedestrianAspect.TheVariants as pedestrian_aspects
-use Rattle.tsb_step.specs.tsb_types.Intervals.{is_green, is_yellow, is_red_clear, in_service}
-use Rattle.tsb_step.proofs.tsb_types.IntervalLemmas.{serves-green}
-use Rattle.tsb_step.specs.tsb_plan.declared.object.Object.TheVariants.{OverlapIncludedPhases}
-use Rattle.tsb_step.specs.tsb_plan.Parts.{is_included, is_minus_green_yellow}
-use Rattle.tsb_step.specs.tsb_plan.Plan.{is_enabled}
+use Rattle.tsb_step.specs.tsb_types.Intervals.{is_yellow, in_service}
+use Rattle.tsb_step.specs.tsb_plan.Parts.{includes_none, is_arrow, is_included, is_minus_green_yellow, is_timed, trails}
 use Rattle.tsb_step.proofs.tsb_rules.RuleLemmas.{Passes, some-run_from}
-use Rattle.tsb_step.specs.tsb_heads.Heads.{aspect_of, vehicle_head, pedestrian_aspect_of, has_pedestrian_head, pedestrian_head}
-use Rattle.tsb_step.specs.tsb_heads.Overlaps.{is_followed, keeps_green, is_kept_green, is_on_yellow, has_green_modifier, has_yellow_modifier, is_on_last_yellow, normal_aspect, minus_green_yellow_aspect, aspect_by_type, overlap_head}
+use Rattle.tsb_step.specs.tsb_heads.Heads.{vehicle_head}
+use Rattle.tsb_step.specs.tsb_heads.Overlaps.{is_followed, keeps_green, is_kept_green, is_on_yellow, has_green_modifier, has_yellow_modifier, is_on_last_yellow, normal_aspect, minus_green_yellow_aspect, aspect_by_type, head_by_phases, overlap_head}
 use Rattle.tsb_step.specs.tsb_heads.Displays.{ordered, flashed, flashing}
-use Rattle.tsb_step.specs.tsb_heads.Monitoring.{gives_way, lets_walk, has_right_of_way}
-use Rattle.tsb_step.specs.State.{State, interval, pedestrian_part}
+use Rattle.tsb_step.specs.tsb_heads.Monitoring.{gives_way, has_right_of_way}
+use Rattle.tsb_step.specs.State.{State, interval}
 use Rattle.tsb_step.specs.Signs.{shown, display}
 use Rattle.tsb_step.specs.Good.{IsGood}
-use Rattle.tsb_step.proofs.SafeLemmas.{served_together, shows_service, shows_walk, walks_in_service, way_in_service}
+use Rattle.tsb_step.specs.Backed.{AreBacked, IsTrailed, TrailsBy}
+use Rattle.tsb_step.specs.tsb_overlap.declared.parts.OverlapInterval.{OverlapInterval}
+use Rattle.tsb_step.specs.tsb_overlap.declared.parts.OverlapInterval.TheVariants as overlaps
+use Rattle.tsb_step.specs.tsb_overlap.Overlap.{light}
+use Rattle.tsb_step.proofs.SafeLemmas.{served_together, way_in_service}
 use Rattle.tsb_laws.specs.OverlapPhases.{GoesWithPhases}
 use Rattle.tsb_laws.proofs.heads.LitLemmas.{flashes_no_way, yellow_serves}
+use Rattle.tsb_laws.proofs.heads.TimedLemmas.{clears_serves, keeps_serves}
 
 -- ## An included phase in service
 
@@ -30,12 +27,6 @@ record Carries (s : State) (o : ℕ) : Type 0 where
   phase : ℕ
   included : is_included s.plan o phase ≡ true
   serves : in_service (interval s phase) ≡ true
-
-keeps_serves : (i : Interval) (followed : Bool) → (is_green i || ((is_yellow i || is_red_clear i) && followed)) ≡ true → in_service i ≡ true
-keeps_serves Red followed h = absurd (false≢true h)
-keeps_serves Green followed h = refl
-keeps_serves Yellow followed h = refl
-keeps_serves RedClear followed h = refl
 
 kept_by_one : (s : State) (o : ℕ) → is_kept_green s.plan (shown s) o ≡ true → Carries s o
 unfolding is_kept_green
@@ -90,20 +81,41 @@ by_type s o h = go (is_minus_green_yellow s.plan o) h
     go true x = minus_carries s o x
     go false x = normal_carries s o x
 
-head_carries : (s : State) (o : ℕ) → gives_way (overlap_head s.plan (shown s) o) ≡ true → Carries s o
-head_carries s o h = go (s.plan.value OverlapIncludedPhases o == 0) h
+untimed_carries : (s : State) (o : ℕ) → gives_way (head_by_phases s.plan (shown s) o) ≡ true → Carries s o
+untimed_carries s o h = go (includes_none s.plan o) h
   where
     go : (b : Bool) → gives_way (if b then aspects.Dark else aspect_by_type s.plan (shown s) o) ≡ true → Carries s o
     go true x = absurd (false≢true x)
     go false x = by_type s o x
 
-carries : (s : State) (o : ℕ) → gives_way ((display s).overlap o) ≡ true → Carries s o
+trailed_carries : (s : State) (o : ℕ) → IsTrailed s o → Carries s o
+trailed_carries s o x = record { phase = x.phase; included = x.included; serves = clears_serves (interval s x.phase) x.clears }
+
+-- an overlap that trails, by its interval
+trailing_carries : (s : State) (o : ℕ) (i : OverlapInterval) → TrailsBy s o i → gives_way (light i) ≡ true → Carries s o
+trailing_carries s o overlaps.Red by h = absurd (false≢true h)
+trailing_carries s o overlaps.Green by h = kept_by_one s o by
+trailing_carries s o overlaps.TrailGreen by h = trailed_carries s o by
+trailing_carries s o overlaps.Flashing by h = absurd by
+trailing_carries s o overlaps.Yellow by h = trailed_carries s o by
+trailing_carries s o overlaps.RedClear by h = trailed_carries s o by
+
+head_carries : (s : State) → AreBacked s → (o : ℕ) → is_arrow s.plan o ≡ false → gives_way (overlap_head s.plan (shown s) o) ≡ true → Carries s o
+head_carries s backed o none h = go (is_timed s.plan o) refl h
+  where
+    go : (b : Bool) → is_timed s.plan o ≡ b → gives_way (if b then light (s.overlaps o).interval else head_by_phases s.plan (shown s) o) ≡ true → Carries s o
+    go true timed x =
+        let trail : trails s.plan o ≡ true = sym (ap (λ (a : Bool). a || trails s.plan o) none) ∙ timed in
+        trailing_carries s o (s.overlaps o).interval ((backed o).trail none trail) x
+    go false timed x = untimed_carries s o x
+
+carries : (s : State) → AreBacked s → (o : ℕ) → is_arrow s.plan o ≡ false → gives_way ((display s).overlap o) ≡ true → Carries s o
 unfolding display
-carries s o h = go (is_some s.trip) h
+carries s backed o none h = go (is_some s.trip) h
   where
     go : (b : Bool) → gives_way ((if b then flashing (ordered s.plan (shown s)) else ordered s.plan (shown s)).overlap o) ≡ true → Carries s o
     go true x = absurd (flashes_no_way (overlap_head s.plan (shown s) o) x)
-    go false x = head_carries s o x
+    go false x = head_carries s backed o none x
 
 -- ## Flashing heads give no right of way
 
@@ -125,9 +137,9 @@ way_serves s good q h = go (is_some s.trip) h
 
 -- ## So the overlap goes with what is in service
 
-pub goes_with_phases : (s : State) → IsGood s → (o : ℕ) → gives_way ((display s).overlap o) ≡ true → GoesWithPhases s o
-goes_with_phases s good o h =
-    let it : Carries s o = carries s o h in
+pub goes_with_phases : (s : State) → IsGood s → AreBacked s → (o : ℕ) → is_arrow s.plan o ≡ false → gives_way ((display s).overlap o) ≡ true → GoesWithPhases s o
+goes_with_phases s good backed o none h =
+    let it : Carries s o = carries s backed o none h in
     record {
       phase = it.phase;
       included = it.included;

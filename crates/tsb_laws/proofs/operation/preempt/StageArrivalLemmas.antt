@@ -32,6 +32,7 @@ use Rattle.tsb_step.proofs.tsb_phase.ReadLemmas.{is-red}
 use Rattle.tsb_laws.proofs.safety.AllRedLemmas.{ring_is}
 use Rattle.tsb_laws.proofs.safety.CrossingRingLemmas.{is_over, is_started_then}
 use Rattle.tsb_laws.proofs.safety.DueLemmas.{clipped_at}
+use Rattle.tsb_laws.proofs.safety.UnheldLemmas.{told_over}
 use Rattle.tsb_laws.proofs.operation.step.AcrossLemmas.{promised_red}
 use Rattle.tsb_laws.proofs.operation.step.PhaseTimeLemmas.{not_yet_over, not_yet_reverted}
 use Rattle.tsb_laws.proofs.operation.preempt.StageFactLemmas.{Limits, Within, clear_of, revert_of, Stays, started_green, still_green, told_list, pairs_list, wanted_stays, green_no_start}
@@ -129,7 +130,7 @@ module _ (s : State) (row : Row) (list : ℕ → Bool) (n : ℕ) (x : Stays s ro
     due = record {
       wanted = told_list s row list n x;
       greens = λ p lit. targeted p (x.on.serves p (serves-green (interval s p) lit)) (wanted_lit p lit);
-      over = λ p serves dark. clipped_at (over s) s.plan p x.few (x.good.rings.listed p serves) ∙ over_now p serves dark;
+      over = λ p serves dark. told_over s row p w.untrailed x.few (x.good.rings.listed p serves) ∙ over_now p serves dark;
       bound = λ r c e. clipped_at (reverted s) s.plan c x.few (x.good.rings.owned r c e).1
           ∙ back_now c (was.commits r c e) (promised_red s r c x.calm x.sided x.across e);
       reverted = λ p listed h dark. clipped_at (reverted s) s.plan p x.few listed ∙ back_now p (and_parts (is_enabled s.plan p) (list p) h).1 dark;

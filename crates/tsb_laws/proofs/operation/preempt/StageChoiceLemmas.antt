@@ -1,6 +1,6 @@
 -- What rings give up brings a stage no later: commitments of before are gone, and what is wanted is still committed to.
 -- For the laws that preempts reach their stages and dwell.
-use Rattle.std.proofs.Common.{◌≡◌, ℕ, ◌+◌, ◌-◌, ◌≤◌, Bool, true, false, ◌&&◌, max, Option, Some, None, refl, sym, ap, subst, ◌∙◌, inl, inr, ◌⊎◌, arith}
+use Rattle.std.proofs.Common.{◌≡◌, ℕ, ◌+◌, ◌-◌, ◌≤◌, Bool, true, false, max, Option, Some, refl, sym, ap, subst, ◌∙◌, inl, inr, ◌⊎◌, arith}
 use Rattle.std.proofs.lemmas.Bool.{and_parts, true≢false}
 use Rattle.tsb_step.specs.tsb_types.declared.interval.Interval.TheVariants.{Green}
 use Rattle.tsb_step.specs.tsb_types.declared.row.Row.{Row}

@@ -27,6 +27,7 @@ use Rattle.tsb_step.proofs.TellLemmas.{is_in_green}
 use Rattle.tsb_step.proofs.tsb_phase.ReadLemmas.{is-red}
 use Rattle.tsb_laws.proofs.safety.CrossingRingLemmas.{begins_ending, starts_all, none_is_started, commitment_stays, WaitsFor, clearance_of, revert_of as reverting, waits_for_one}
 use Rattle.tsb_laws.proofs.safety.DueLemmas.{clipped_at}
+use Rattle.tsb_laws.proofs.safety.UnheldLemmas.{told_over}
 use Rattle.tsb_laws.proofs.safety.RingLemmas.{stays_outside, starts_not}
 use Rattle.tsb_laws.proofs.operation.step.AcrossLemmas.{GoesAcross, promised_red}
 use Rattle.tsb_laws.proofs.operation.step.PhaseTimeLemmas.{not_yet_over, not_yet_reverted, reverts_down}
@@ -115,7 +116,7 @@ module _ (s : State) (row : Row) (list : ℕ → Bool) (n : ℕ) (x : Stays s ro
         go (inr h) = left_red k c r was (sym (clipped_at (reverted s) s.plan c x.few (x.good.rings.owned r c was).1) ∙ h) soon.revert
         go (inl h) =
             let at_it = serving_is s.plan (rings_given s row) r h.0 h.1 in
-            left_over k h.0 at_it.1 (x.calm.bound r c h.0 was at_it.0) (sym (clipped_at (over s) s.plan h.0 x.few (x.good.rings.listed h.0 at_it.1)) ∙ h.2)
+            left_over k h.0 at_it.1 (x.calm.bound r c h.0 was at_it.0) (sym (told_over s row h.0 w.untrailed x.few (x.good.rings.listed h.0 at_it.1)) ∙ h.2)
             (soon.own h.0 at_it.1 at_it.0)
 
     stays_out : s.rings.crossing ≡ None → (d : ℕ) → (after_moves s row).rings.crossing ≡ Some d → ⊥
@@ -145,7 +146,7 @@ module _ (s : State) (row : Row) (list : ℕ → Bool) (n : ℕ) (x : Stays s ro
       where
         go : WaitsFor s.plan s.rings (rings_given s row) (yellow_done s) even x.good.rings fair d way → 1 ≤ k
         go (clearance_of p h e) =
-            left_over k p h (x.calm.crosses d way p) (sym (clipped_at (over s) s.plan p x.few (x.good.rings.listed p h)) ∙ e) (soon.all d way p)
+            left_over k p h (x.calm.crosses d way p) (sym (told_over s row p w.untrailed x.few (x.good.rings.listed p h)) ∙ e) (soon.all d way p)
         go (reverting q f h e) =
             left_red k f q h (sym (clipped_at (reverted s) s.plan f x.few (x.good.rings.owned q f h).1) ∙ e) (soon.reverts d way q f h)
 

@@ -1,7 +1,7 @@
 -- The times of a preempt that is in a stage, what the controller has in a tick of it, and what such a tick does to
 -- phases and commitments. For the laws that preempts reach their stages and dwell.
 use Rattle.std.proofs.Common.{◌≡◌, ℕ, ◌+◌, ◌≤◌, Bool, true, false, not, max, Option, Some, None, refl, sym, ap, ◌∙◌, inl, inr, ◌⊎◌, arith}
-use Rattle.std.proofs.lemmas.Bool.{true≢false, false≢true, false_from_ne_true}
+use Rattle.std.proofs.lemmas.Bool.{false_from_ne_true, false≢true, not-false, true≢false}
 use Rattle.tsb_step.specs.tsb_cells.declared.timer.Timer.{Timer}
 use Rattle.tsb_step.specs.tsb_types.declared.interval.Interval.{Interval}
 use Rattle.tsb_step.specs.tsb_types.declared.interval.Interval.TheVariants.{Red, Green, Yellow, RedClear}
@@ -15,7 +15,6 @@ use Rattle.tsb_step.specs.tsb_phase.Phase.{Phase}
 use Rattle.tsb_step.specs.tsb_phase.Pedestrian.{ended_by, walk_time, clearance_time}
 use Rattle.tsb_step.specs.tsb_phase.Ready.{yellow_is_done}
 use Rattle.tsb_step.specs.tsb_preempt.Preempts as preempts
-use Rattle.tsb_step.specs.tsb_ring.Rings as rings
 use Rattle.tsb_step.specs.tsb_ring.Rings.{Ring}
 use Rattle.tsb_step.specs.tsb_ring.Moves.{is_ended, is_cleared, is_started}
 use Rattle.tsb_step.specs.tsb_ring.Laws.{IsListed, IsPairwiseConcurrent}
@@ -26,6 +25,7 @@ use Rattle.tsb_step.specs.Good.{IsGood}
 use Rattle.tsb_step.proofs.IntervalLemmas.{ended_was_green}
 use Rattle.tsb_step.proofs.TellLemmas.{starts_no_green}
 use Rattle.tsb_laws.specs.CrossingGreens.{IsCalm}
+use Rattle.tsb_laws.specs.Stretches.{has_no_trails}
 use Rattle.tsb_laws.proofs.safety.EnabledLemmas.{AreEnabled}
 use Rattle.tsb_laws.proofs.operation.step.AcrossLemmas.{GoesAcross}
 use Rattle.tsb_laws.proofs.operation.green.GreenEndLemmas.{ends_unwanted, ended_by_some}
@@ -49,6 +49,7 @@ pub record Limits : Type 0 where
 
 -- the times of this plan for preempt n
 pub record Within (t : Limits) (plan : Plan) (n : ℕ) : Type 0 where
+  pub untrailed : has_no_trails plan ≡ true
   pub green : preempt_minimum_green plan n ≤ t.green
   pub walk : (p : ℕ) → walk_time plan p (Some n) ≤ t.walk p
   pub clearance : (p : ℕ) → clearance_time plan p (Some n) ≤ t.clearance p
@@ -157,16 +158,12 @@ pub still_green : (s : State) (row : Row) (p : ℕ) → is_started (moves s row)
     interval (next s row) p ≡ Green
 still_green s row p n l e = rw (n, e, l) refl
 
-not_not : (b : Bool) → not b ≡ false → b ≡ true
-not_not true h = refl
-not_not false h = absurd (true≢false h)
-
 module _ (s : State) (row : Row) (list : ℕ → Bool) (n : ℕ) (x : Stays s row list n) where
   pub it : Asks s row
   it = record { list = list; is_target = x.asks }
 
   in_list : (p : ℕ) → must_end s row p ≡ false → list p ≡ true
-  in_list p h = not_not (list p) (sym (ap (λ (o : Option (ℕ → Bool)). preempts.is_outside o p) x.asks) ∙ h)
+  in_list p h = not-false (list p) (sym (ap (λ (o : Option (ℕ → Bool)). preempts.is_outside o p) x.asks) ∙ h)
 
   pub told_list : (rings_given s row).target ≡ Some list
   told_list = told s row x.good (record { list = list; is_target = x.asks })

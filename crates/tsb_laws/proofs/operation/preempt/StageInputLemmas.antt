@@ -1,6 +1,6 @@
 -- A stage of a preempt in a tick, and through inputs that are no tick: what it asks for stays, and what is left of it.
 -- For the laws that preempts reach their stages and dwell.
-use Rattle.std.proofs.Common.{◌≡◌, ℕ, ◌+◌, ◌-◌, ◌≤◌, ◌==◌, Bool, true, false, ◌&&◌, if◌then◌else◌, List, ◌∷◌, Option, Some, None, is_some, option_map, refl, sym, ap, subst, ◌∙◌, arith}
+use Rattle.std.proofs.Common.{◌≡◌, ℕ, ◌+◌, ◌≤◌, ◌==◌, Bool, true, false, ◌&&◌, if◌then◌else◌, List, ◌∷◌, Option, Some, None, is_some, option_map, refl, sym, ap, subst, ◌∙◌, arith}
 use Rattle.std.proofs.lemmas.Bool.{and_parts, eqb-true, true≢false, false≢true}
 use Rattle.tsb_step.specs.tsb_types.declared.row.Row.{Row}
 use Rattle.tsb_step.specs.tsb_types.declared.stage.Stage.{Stage}
@@ -15,8 +15,7 @@ use Rattle.tsb_step.specs.tsb_rules.Consistent.{AreCompatible}
 use Rattle.tsb_step.specs.tsb_phase.Phase.{Phase}
 use Rattle.tsb_step.specs.tsb_preempt.Preempts as preempts
 use Rattle.tsb_step.specs.tsb_preempt.Service.{Service, stage_phases}
-use Rattle.tsb_step.specs.tsb_ring.Rings as rings
-use Rattle.tsb_step.specs.tsb_ring.Rings.{Ring, number, in_ring}
+use Rattle.tsb_step.specs.tsb_ring.Rings.{Ring, in_ring}
 use Rattle.tsb_step.specs.tsb_transact.Desk.{with_edits}
 use Rattle.tsb_step.specs.tsb_transact.Commit.{is_preempt_list, changes_structure, changes_preempt}
 use Rattle.tsb_step.specs.declared.inputs.Input.{Input}

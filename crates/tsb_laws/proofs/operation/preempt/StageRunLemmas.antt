@@ -18,7 +18,7 @@ use Rattle.tsb_step.specs.tsb_ring.Rings.{number}
 use Rattle.tsb_step.specs.declared.inputs.Input.{Input}
 use Rattle.tsb_step.specs.declared.inputs.Input.TheVariants.{Tick}
 use Rattle.tsb_step.specs.State.{State, interval}
-use Rattle.tsb_step.specs.Tick.{preempts_given, preempts_read, new_service, service, next}
+use Rattle.tsb_step.specs.Tick.{preempts_given, preempts_read, next}
 use Rattle.tsb_step.specs.Step.{step, kind_of}
 use Rattle.tsb_step.specs.Past.{ticks_of}
 use Rattle.tsb_step.specs.Runs.{replay, AreTaken}
@@ -27,11 +27,12 @@ use Rattle.tsb_step.proofs.ClearLemmas.{plan_stays, phases_then, one_later}
 use Rattle.tsb_step.proofs.GoodLemmas.{good_run}
 use Rattle.tsb_step.proofs.SideRunLemmas.{sided_run}
 use Rattle.tsb_step.proofs.StandLemmas.{rings_then}
-use Rattle.tsb_laws.specs.Stretches.{IsUntripped, has_held_since, largest}
+use Rattle.tsb_laws.specs.Stretches.{IsUntripped, has_held_since, NoneTrails, largest}
 use Rattle.tsb_laws.specs.PreemptTurns.{place}
 use Rattle.tsb_laws.specs.PreemptStages.{is_in_stage, StageTakesAtMost, time_to_stage, ReachesStage, ReachesWithin}
 use Rattle.tsb_laws.proofs.safety.StretchLemmas.{dark_now, taken_before, IsSame, Goes, ticks, stays, goes}
 use Rattle.tsb_laws.proofs.safety.DueLemmas.{largest_now, largest_more, ring_same, count_run}
+use Rattle.tsb_laws.proofs.safety.UnheldLemmas.{untrailed_before, untrailed_now}
 use Rattle.tsb_laws.proofs.safety.EnabledLemmas.{enabled_next}
 use Rattle.tsb_laws.proofs.operation.step.AcrossLemmas.{across_run}
 use Rattle.tsb_laws.proofs.operation.step.CalmLemmas.{calm_run}
@@ -55,6 +56,7 @@ near_some t list plan phases s d (crosses was it time) = time
 
 -- the times of all plans in effect meanwhile
 pub record Covers (t : Limits) (plan : Plan) (base : List Input) (n : ℕ) (later : List Input) : Type 0 where
+  pub untrailed : NoneTrails plan base later
   pub green : largest (λ x. preempt_minimum_green x n) plan base later ≤ t.green
   pub walk : (p : ℕ) → largest (λ x. walk_time x p (Some n)) plan base later ≤ t.walk p
   pub clearance : (p : ℕ) → largest (λ x. clearance_time x p (Some n)) plan base later ≤ t.clearance p
@@ -71,6 +73,7 @@ module _ (t : Limits) (plan : Plan) (base : List Input) (n : ℕ) where
 
   pub covers_before : (i : Input) (later : List Input) → Covers t plan base n (i ∷ later) → Covers t plan base n later
   covers_before i later h = record {
+    untrailed = untrailed_before plan base i later h.untrailed;
     green = fewer i later (λ x. preempt_minimum_green x n) t.green h.green;
     walk = λ p. fewer i later (λ x. walk_time x p (Some n)) (t.walk p) (h.walk p);
     clearance = λ p. fewer i later (λ x. clearance_time x p (Some n)) (t.clearance p) (h.clearance p);
@@ -81,6 +84,7 @@ module _ (t : Limits) (plan : Plan) (base : List Input) (n : ℕ) where
 
   pub covers_now : (later : List Input) → Covers t plan base n later → Within t (replay plan (later ++ base)).plan n
   covers_now later h = record {
+    untrailed = untrailed_now plan base later h.untrailed;
     green = at_now later (λ x. preempt_minimum_green x n) t.green h.green;
     walk = λ p. at_now later (λ x. walk_time x p (Some n)) (t.walk p) (h.walk p);
     clearance = λ p. at_now later (λ x. clearance_time x p (Some n)) (t.clearance p) (h.clearance p);
@@ -259,6 +263,7 @@ module _ (plan : Plan) (base later : List Input) (n g w c : ℕ) (ok : IsConsist
 
   pub covered : Covers limits plan base n later
   covered = record {
+    untrailed = most.untrailed;
     green = most.green;
     walk = λ p. all_of (largest (λ x. walk_time x p (Some n)) plan base later);
     clearance = λ p. all_of (largest (λ x. clearance_time x p (Some n)) plan base later);

@@ -1,6 +1,6 @@
 -- The longest entry of a worksheet is the time that the laws of stages give. Proves `printed_entries_hold`.
-use Rattle.std.proofs.Common.{◌≡◌, ◌∙◌, ℕ, zero, suc, ◌+◌, ◌<◌, ◌≤◌, ◌==◌, nat_le, Bool, true, false, ◌&&◌, ◌||◌, max, List, [], ◌∷◌, ◌++◌, Option, Some, None, option_map, refl, sym, ap, subst, inl, inr, arith}
-use Rattle.std.proofs.lemmas.Bool.{and_parts, cases_Bool, eqb-true, true≢false}
+use Rattle.std.proofs.Common.{◌≡◌, ◌∙◌, ℕ, zero, suc, ◌+◌, ◌<◌, ◌≤◌, ◌==◌, nat_le, Bool, true, false, ◌&&◌, ◌||◌, if◌then◌else◌, max, List, [], ◌∷◌, ◌++◌, Option, Some, None, option_map, refl, sym, ap, ap₂, subst, inl, inr, arith}
+use Rattle.std.proofs.lemmas.Bool.{and_from, and_parts, cases_Bool, eqb-true, not-true, true≢false}
 use Rattle.std.proofs.lemmas.Bool.Decides.{nat_tests}
 use Rattle.std.specs.List.{list_all, list_any}
 use Rattle.tsb_step.specs.tsb_types.declared.row.Row.{Row}
@@ -8,7 +8,7 @@ use Rattle.tsb_step.specs.tsb_types.declared.stage.Stage.{Stage}
 use Rattle.tsb_step.specs.tsb_types.Lists.{run_from}
 use Rattle.tsb_step.specs.tsb_types.Sets.{names}
 use Rattle.tsb_step.specs.tsb_plan.declared.object.Object.TheVariants.{OverlapIncludedPhases, PhasePedestrianClear, PhaseRedClear, PhaseRedRevert, PhaseWalk, PhaseYellowChange}
-use Rattle.tsb_step.specs.tsb_plan.Parts.{chooses_anew, is_anew, preempt_minimum_green}
+use Rattle.tsb_step.specs.tsb_plan.Parts.{chooses_anew, includes_none, is_anew, is_included, preempt_minimum_green, trail_red, trail_yellow, trails}
 use Rattle.tsb_step.specs.tsb_plan.Plan.{Plan, phases, red_clear, red_revert, yellow_change}
 use Rattle.tsb_step.specs.tsb_rules.Rules.{first_broken}
 use Rattle.tsb_step.specs.tsb_heads.Overlaps.{lasts, some_lasts}
@@ -20,11 +20,12 @@ use Rattle.tsb_step.specs.Signs.{is_choosing, is_lasting, shown}
 use Rattle.tsb_step.specs.State.{State}
 use Rattle.tsb_step.specs.Runs.{replay, AreTaken}
 use Rattle.tsb_step.specs.Laws.{IsConsistent}
+use Rattle.tsb_step.proofs.EditLemmas.{or_false}
 use Rattle.tsb_step.proofs.GoodLemmas.{good_run}
 use Rattle.tsb_step.proofs.tsb_types.SetLemmas.{names-zero}
 use Rattle.tsb_review.proofs.LoopLemmas.{any-none}
-use Rattle.tsb_review.specs.Worksheet.{clearing, greatest, greatest_of, has_no_overlaps, includes_none, longest_by_choice, longest_by_turn, longest_entry, pedestrians_left}
-use Rattle.tsb_laws.specs.Stretches.{IsUntripped, has_held_since, largest}
+use Rattle.tsb_review.specs.Worksheet.{clearing, greatest, greatest_of, held, held_by, has_no_overlaps, longest_by_choice, longest_by_turn, longest_entry, pedestrians_left, waited_for}
+use Rattle.tsb_laws.specs.Stretches.{IsUntripped, has_held_since, has_no_trails, NoneTrails, largest}
 use Rattle.tsb_laws.specs.PreemptChoices.{ChoiceTakesAtMost, HasChosen, chooses}
 use Rattle.tsb_laws.specs.PreemptDwells.{BeginsService}
 use Rattle.tsb_laws.specs.PreemptStages.{ReachesWithin, StageTakesAtMost, is_in_stage}
@@ -66,6 +67,26 @@ one-phase x none = elim (cases_Bool (x.phase_count == 0)) [
   | inr h ↦ grind (arith, nat_tests, h)
 ]
 
+-- where no overlap trails none holds a phase
+held-of : (x : Plan) (p : ℕ) (os : List ℕ) → list_any (trails x) os ≡ false → greatest_of (held_by x p) os ≡ 0
+held-of x p [] h = refl
+held-of x p (o ∷ os) h =
+    let both = or_false (trails x o) (list_any (trails x) os) h in
+    ap₂ (λ (b : Bool) (m : ℕ). max (if b && is_included x o p then trail_yellow x o + trail_red x o else 0) m) both.0 (held-of x p os both.1)
+
+held-none : (x : Plan) (p : ℕ) → has_no_trails x ≡ true → held x p ≡ 0
+unfolding held
+held-none x p none = held-of x p (run_from 1 x.counts.overlaps) (not-true (list_any (trails x) (run_from 1 x.counts.overlaps)) none)
+
+waits-same : (x : Plan) → has_no_trails x ≡ true → greatest x (waited_for x) ≡ greatest x (clearing x)
+waits-same x none = ap (greatest x) (λ i p. each p i)
+  where
+    same : (a b h : ℕ) → h ≡ 0 → max (max a h + h) b ≡ max (max a b) h
+    same a b h e = omega (arith, e)
+
+    each : (p : ℕ) → waited_for x p ≡ clearing x p
+    each p = same (yellow_change x p + red_clear x p) (red_revert x p) (held x p) (held-none x p none)
+
 module _ (x : Plan) (ok : IsConsistent x) where
   -- p is one of its phases
   abbrev is_its : ℕ → Bool
@@ -96,15 +117,16 @@ module _ (x : Plan) (ok : IsConsistent x) where
           let clear : x.value PhasePedestrianClear p ≡ 0 = ok.placed PhasePedestrianClear p h in
           rw (walk, clear) (omega arith)
 
-  few-clearings : (p : ℕ) → clearing x p ≤ greatest x (clearing x)
-  few-clearings p = at-most (clearing x) outside p
+  few-clearings : has_no_trails x ≡ true → (p : ℕ) → clearing x p ≤ greatest x (clearing x)
+  few-clearings none p = at-most (clearing x) outside p
     where
       outside : (p : ℕ) → is_its p ≡ false → clearing x p ≤ clearing x 1
       outside p h =
           let yellow : x.value PhaseYellowChange p ≡ 0 = ok.placed PhaseYellowChange p h in
           let red : x.value PhaseRedClear p ≡ 0 = ok.placed PhaseRedClear p h in
           let revert : x.value PhaseRedRevert p ≡ 0 = ok.placed PhaseRedRevert p h in
-          rw (yellow, red, revert) (omega arith)
+          let held_p : held x p ≡ 0 = held-none x p none in
+          rw (yellow, red, revert, held_p) (omega arith)
 
   few-reverts : (p : ℕ) → red_revert x p ≤ greatest x (red_revert x)
   few-reverts p = at-most (red_revert x) outside p
@@ -115,6 +137,12 @@ module _ (x : Plan) (ok : IsConsistent x) where
           rw revert (omega arith)
 
 -- ## A plan that stays
+
+none-trails : (plan x : Plan) (base later : List Input) → HasStayed x plan base later → has_no_trails x ≡ true → NoneTrails plan base later
+none-trails plan x base [] same none = ap has_no_trails same ∙ none
+none-trails plan x base (i ∷ later) same none =
+    and_from (has_no_trails (replay plan (i ∷ (later ++ base))).plan) (has_held_since (λ s. has_no_trails s.plan) plan base later)
+    (ap has_no_trails same.1 ∙ none) (none-trails plan x base later same.0 none)
 
 -- the largest of a time is that of the plan
 stays-at : (f : Plan → ℕ) (x plan : Plan) (base later : List Input) → HasStayed x plan base later → largest f plan base later ≤ f x
@@ -128,7 +156,7 @@ stayed-first : (x plan : Plan) (base later : List Input) → HasStayed x plan ba
 stayed-first x plan base [] h = h
 stayed-first x plan base (i ∷ later) h = stayed-first x plan base later h.0
 
-module _ (plan x : Plan) (base later : List Input) (n : ℕ) (ok : IsConsistent x) (same : HasStayed x plan base later) where
+module _ (plan x : Plan) (base later : List Input) (n : ℕ) (ok : IsConsistent x) (same : HasStayed x plan base later) (none : has_no_trails x ≡ true) where
   stay : (f : Plan → ℕ) → largest f plan base later ≤ f x
   stay f = stays-at f x plan base later same
 
@@ -138,21 +166,22 @@ module _ (plan x : Plan) (base later : List Input) (n : ℕ) (ok : IsConsistent 
   one : (a b m : ℕ) → a ≤ b → b ≤ m → a ≤ m
   one a b m h k = omega (arith, h, k)
 
-  sum-under : (a b m : ℕ) → max a b ≤ m → a ≤ m
-  sum-under a b m h = omega (arith, h)
+  sum-under : (a b d m : ℕ) → max (max a b) d ≤ m → a ≤ m
+  sum-under a b d m h = omega (arith, h)
 
-  revert-under : (a b m : ℕ) → max a b ≤ m → b ≤ m
-  revert-under a b m h = omega (arith, h)
+  revert-under : (a b d m : ℕ) → max (max a b) d ≤ m → b ≤ m
+  revert-under a b d m h = omega (arith, h)
 
   takes : StageTakesAtMost plan base n (preempt_minimum_green x n) (greatest x (pedestrians_left x n)) (greatest x (clearing x)) later
   takes = record {
+    untrailed = none-trails plan x base later same none;
     green = stay (λ y. preempt_minimum_green y n);
     walk = λ p. two (largest (λ y. walk_time y p (Some n)) plan base later) (largest (λ y. clearance_time y p (Some n)) plan base later) (walk_time x p (Some n)) (clearance_time x p (Some n)) _
         (stay (λ y. walk_time y p (Some n))) (stay (λ y. clearance_time y p (Some n))) (few-walks x ok n p);
     clearance = λ p. two (largest (λ y. yellow_change y p) plan base later) (largest (λ y. red_clear y p) plan base later) (yellow_change x p) (red_clear x p) _
-        (stay (λ y. yellow_change y p)) (stay (λ y. red_clear y p)) (sum-under (yellow_change x p + red_clear x p) (red_revert x p) _ (few-clearings x ok p));
+        (stay (λ y. yellow_change y p)) (stay (λ y. red_clear y p)) (sum-under (yellow_change x p + red_clear x p) (red_revert x p) (held x p) _ (few-clearings x ok none p));
     revert = λ p. one (largest (λ y. red_revert y p) plan base later) (red_revert x p) _ (stay (λ y. red_revert y p))
-        (revert-under (yellow_change x p + red_clear x p) (red_revert x p) _ (few-clearings x ok p));
+        (revert-under (yellow_change x p + red_clear x p) (red_revert x p) (held x p) _ (few-clearings x ok none p));
   }
 
   takes-by-choice : ChoiceTakesAtMost plan base n (preempt_minimum_green x n) (greatest x (pedestrians_left x n)) (greatest x (clearing x)) (greatest x (red_revert x)) later
@@ -211,17 +240,21 @@ module _ (plan x : Plan) (base : List Input) (n : ℕ) (stage : Stage) (anew : c
 
 module _ (plan x : Plan) (base later : List Input) (n : ℕ) (stage : Stage) (ok : IsConsistent plan) (few : plan.phase_count ≤ 16) (taken : AreTaken plan (later ++ base))
     (dark : IsUntripped plan base later) (same : HasStayed x plan base later)
-    (held : has_held_since (λ s. is_in_stage n stage s.preempts.service) plan base later ≡ true) where
+    (held_so : has_held_since (λ s. is_in_stage n stage s.preempts.service) plan base later ≡ true) (none : has_no_trails x ≡ true) where
   own : IsConsistent x
   own = subst IsConsistent (stayed-first x plan base later same) (good_run plan base ok (taken_before plan base later taken)).plan
 
   by-turn : ReachesWithin plan base n stage (longest_by_turn x n) later
-  by-turn = stages_reached plan base later n stage (preempt_minimum_green x n) (greatest x (pedestrians_left x n)) (greatest x (clearing x)) ok few taken dark held (takes plan x base later n own same)
+  by-turn =
+      subst
+      (λ (m : ℕ). ReachesWithin plan base n stage (max (greatest x (pedestrians_left x n)) (m + preempt_minimum_green x n + 1) + greatest x (clearing x) + 4) later)
+      (sym (waits-same x none))
+      (stages_reached plan base later n stage (preempt_minimum_green x n) (greatest x (pedestrians_left x n)) (greatest x (clearing x)) ok few taken dark held_so (takes plan x base later n own same none))
 
   by-choice : chooses_anew x n ≡ true → has_no_overlaps x ≡ true → ReachesWithin plan base n stage (longest_by_choice x n) later
   by-choice anew alone =
       chosen_stages plan base later n stage (preempt_minimum_green x n) (greatest x (pedestrians_left x n)) (greatest x (clearing x)) (greatest x (red_revert x)) ok few taken dark
-      (has-chosen plan x base n stage anew alone later same held) held (takes-by-choice plan x base later n own same)
+      (has-chosen plan x base n stage anew alone later same held_so) held_so (takes-by-choice plan x base later n own same none)
 
   pub entry-held : ReachesWithin plan base n stage (longest_entry x n) later
   entry-held = elim (cases_Bool (chooses_anew x n && has_no_overlaps x)) [
@@ -229,8 +262,8 @@ module _ (plan x : Plan) (base later : List Input) (n : ℕ) (stage : Stage) (ok
     | inr h ↦ rw h by-turn
   ]
 
-pub printed_entries : (plan x : Plan) (is later : List Input) (row : Row) (n : ℕ) → IsConsistent plan → plan.phase_count ≤ 16 →
+pub printed_entries : (plan x : Plan) (is later : List Input) (row : Row) (n : ℕ) → IsConsistent plan → plan.phase_count ≤ 16 → has_no_trails x ≡ true →
     AreTaken plan (later ++ (Tick row ∷ is)) → IsUntripped plan (Tick row ∷ is) later → HasStayed x plan (Tick row ∷ is) later →
     BeginsService plan is row n → has_held_since (λ s. is_in_stage n (first_stage x n) s.preempts.service) plan (Tick row ∷ is) later ≡ true →
     ReachesWithin plan (Tick row ∷ is) n (first_stage x n) (longest_entry x n) later
-printed_entries plan x is later row n ok few taken dark same begins held = entry-held plan x (Tick row ∷ is) later n (first_stage x n) ok few taken dark same held
+printed_entries plan x is later row n ok few none taken dark same begins held = entry-held plan x (Tick row ∷ is) later n (first_stage x n) ok few taken dark same held none

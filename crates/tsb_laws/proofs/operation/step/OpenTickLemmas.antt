@@ -30,7 +30,9 @@ use Rattle.tsb_step.proofs.IntervalLemmas.{ended_was_green}
 use Rattle.tsb_laws.specs.CrossingGreens.{IsCalm}
 use Rattle.tsb_laws.specs.ServedCalls.{IsFullyConcurrent}
 use Rattle.tsb_laws.proofs.safety.AllRedRingLemmas.{started_by}
+use Rattle.tsb_laws.specs.Stretches.{has_no_trails}
 use Rattle.tsb_laws.proofs.safety.DueLemmas.{clipped_at}
+use Rattle.tsb_laws.proofs.safety.UnheldLemmas.{told_over as unheld_over}
 use Rattle.tsb_laws.proofs.safety.EnabledLemmas.{AreEnabled, callable_on, callable_no_green, free_of}
 use Rattle.tsb_laws.proofs.safety.SideSoughtLemmas.{Found, some_found, found_some}
 use Rattle.tsb_laws.proofs.safety.CoordinationLemmas.{no_target}
@@ -41,6 +43,7 @@ use Rattle.tsb_laws.proofs.operation.step.TurnRingLemmas.{IsFair}
 use Rattle.tsb_laws.proofs.operation.calls.RingPlaceLemmas.{view, order_of}
 
 pub record IsOpenTick (s : State) (row : Row) : Type 0 where
+  pub untrailed : has_no_trails s.plan ≡ true
   pub good : IsGood s
   pub few : s.plan.phase_count ≤ 16
   pub calm : IsCalm s.plan (interval s) s.rings
@@ -138,8 +141,7 @@ module _ (s : State) (row : Row) (tick : IsOpenTick s row) where
   told_ready p there = clipped_at (ready s row) s.plan p tick.few there
 
   pub told_over : (p : ℕ) → IsListed s.plan p → (rings_given s row).over p ≡ over s p
-  unfolding rings_given
-  told_over p there = clipped_at (over s) s.plan p tick.few there
+  told_over p there = unheld_over s row p tick.untrailed tick.few there
 
   pub told_reverted : (p : ℕ) → IsListed s.plan p → (rings_given s row).reverted p ≡ reverted s p
   unfolding rings_given

@@ -3,7 +3,6 @@ use Rattle.std.proofs.Common.{◌≡◌, ℕ, true, Option, Some, None, refl, sy
 use Rattle.std.proofs.lemmas.Bool.{or_cases}
 use Rattle.tsb_step.specs.tsb_types.declared.row.Row.{Row}
 use Rattle.tsb_step.specs.tsb_types.Lists.{is}
-use Rattle.tsb_step.specs.tsb_ring.Rings as rings
 use Rattle.tsb_step.specs.tsb_ring.Rings.{Ring, Ring1, Ring2, serving}
 use Rattle.tsb_step.specs.tsb_ring.Wants.{pick}
 use Rattle.tsb_step.specs.tsb_ring.Next.{idle_pick, starting}

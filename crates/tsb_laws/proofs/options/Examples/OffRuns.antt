@@ -23,7 +23,7 @@ use Rattle.tsb_laws.proofs.operation.Examples.OptionMistakes.{quad_has_none}
 
 -- what a computed example of the controller without options opens beside `opened`
 unfoldable pub opened_without : Unit {0}
-unfolding parts.broken_by_parts parts.first_broken parts.has_maxed_out parts.pedestrian_now parts.is_ready parts.is_kept_green plain.phases_given plain.rings_given plain.moves plain.display plain.field plain.watched plain.step
+unfolding parts.broken_by_parts parts.conflict parts.conflict_of parts.first_broken parts.has_maxed_out parts.pedestrian_now parts.is_ready parts.is_kept_green plain.phases_given plain.rings_given plain.moves plain.display plain.field plain.watched plain.step
 opened_without = tt
 
 -- the newest input first
@@ -45,6 +45,8 @@ quad_at_zero = record {
   phase_dynamic_max_limit = λ p. refl;
   overlap_type = λ o. refl;
   overlap_modifier_phases = λ o. refl;
+  overlap_trail_green = λ o. refl;
+  overlap_trail_yellow = λ o. refl;
 }
 
 an_off_run : OffRun quad second_pattern

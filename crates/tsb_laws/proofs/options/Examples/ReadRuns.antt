@@ -147,6 +147,8 @@ read_alone = record {
     phase_dynamic_max_limit = λ p. refl;
     overlap_type = λ o. refl;
     overlap_modifier_phases = λ o. refl;
+    overlap_trail_green = λ o. refl;
+    overlap_trail_yellow = λ o. refl;
   };
   differ = record {
     phase_count = refl;

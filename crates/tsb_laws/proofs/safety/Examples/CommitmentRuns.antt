@@ -16,12 +16,12 @@ use Rattle.tsb_step.specs.State.{interval}
 use Rattle.tsb_step.specs.Runs.{replay, AreTaken}
 use Rattle.tsb_step.specs.Laws.{IsConsistent, is_unlit}
 use Rattle.tsb_step.proofs.Examples.Scenes.{opened}
-use Rattle.tsb_laws.specs.Stretches.{IsUntripped, NoneChooses, EndsGreen, StartsGreen}
+use Rattle.tsb_laws.specs.Stretches.{IsUntripped, has_no_trails, NoneChooses, NoneTrails, EndsGreen, StartsGreen}
 use Rattle.tsb_laws.specs.Intergreens.{AreApart}
 use Rattle.tsb_laws.specs.Commitments.{CommitsTo, wait, StartsWithin}
 use Rattle.tsb_laws.proofs.safety.ServedLemmas.{are_served}
 use Rattle.tsb_laws.proofs.safety.Examples.PlanFits.{Fits, no_choice, values_fit, quad_fits, consistent}
-use Rattle.tsb_laws.proofs.safety.Examples.TickRuns.{ticks, now_then, plan_then, none_choose, largest_then, all_taken, none_trips, AreTicks, older_ticks}
+use Rattle.tsb_laws.proofs.safety.Examples.TickRuns.{ticks, now_then, plan_then, none_choose, none_trail, largest_then, all_taken, none_trips, AreTicks, older_ticks}
 
 -- ## A run that is known as far as its newest input, and ticks after it
 
@@ -33,6 +33,7 @@ pub record IsKnown (plan : Plan) (base : List Input) : Type 0 where
   pub unlit : is_unlit plan base ≡ true
   pub early : (replay plan base).now ≤ 100
   pub choice : (n : ℕ) → (replay plan base).plan.value PreemptChoosesAnew n ≤ 0
+  pub untrailed : has_no_trails (replay plan base).plan ≡ true
 
 -- c starts in the tick after so many
 pub record Starts (plan : Plan) (base : List Input) (row : Row) (c n : ℕ) : Type 0 where
@@ -48,7 +49,7 @@ pub starts_then : (plan : Plan) (is : List Input) (row last : Row) (p : ℕ) (r 
 starts_then plan is row last p r c n known x most few =
     go (are_served plan is (ticks row n) last p r c known.consistent known.few (all_taken plan row (Tick last ∷ is) n known.taken in_time)
     (none_trips plan row (Tick last ∷ is) known.consistent known.taken known.unlit n in_time)
-    (none_choose plan row (Tick last ∷ is) n known.choice) x)
+    (none_choose plan row (Tick last ∷ is) n known.choice) (none_trail plan row (Tick last ∷ is) n known.untrailed) x)
   where
     in_time : (replay plan (Tick last ∷ is)).now + n ≤ 1000
     in_time = let early = known.early in omega (arith, early, few)
@@ -106,6 +107,10 @@ ticked_2 : (replay brief ended).now ≡ 2
 unfolding opened brief
 ticked_2 = refl
 
+no_trails : has_no_trails (replay brief ended).plan ≡ true
+unfolding opened brief
+no_trails = refl
+
 pub brief_known : IsKnown brief ended
 brief_known = record {
   consistent = consistent no_choice brief brief_count breaks_none brief_fits;
@@ -116,6 +121,7 @@ brief_known = record {
   choice = λ n. (let same : (replay brief ended).plan.value PreemptChoosesAnew n ≡ brief.value PreemptChoosesAnew n =
       ap (λ (x : Plan). x.value PreemptChoosesAnew n) (plan_then brief all_off [] 2) in
       let most : brief.value PreemptChoosesAnew n ≤ 0 = brief_fits.bounded PreemptChoosesAnew n in omega (arith, same, most));
+  untrailed = no_trails;
 }
 
 was_green : interval (replay brief (Tick all_off ∷ [])) 1 ≡ Green
@@ -167,6 +173,7 @@ record Commitment (plan : Plan) (is later : List Input) (row : Row) (p : ℕ) (r
   taken : AreTaken plan (later ++ (Tick row ∷ is))
   untripped : IsUntripped plan (Tick row ∷ is) later
   choice : NoneChooses plan (Tick row ∷ is) later
+  untrailed : NoneTrails plan (Tick row ∷ is) later
   commits : CommitsTo plan is row p r c
 
 a_commitment : Commitment brief (Tick all_off ∷ []) (ticks all_off starts_2.count) all_off 1 Ring1 2
@@ -176,6 +183,7 @@ a_commitment = record {
   taken = all_taken brief all_off ended starts_2.count taken in_time;
   untripped = none_trips brief all_off ended brief_known.consistent taken unlit starts_2.count in_time;
   choice = none_choose brief all_off ended starts_2.count brief_known.choice;
+  untrailed = none_trail brief all_off ended starts_2.count no_trails;
   commits = commits_to_2;
 }
 

@@ -18,11 +18,11 @@ use Rattle.tsb_step.specs.Runs.{replay, AreTaken}
 use Rattle.tsb_step.specs.Laws.{IsConsistent, is_unlit}
 use Rattle.tsb_step.proofs.ClearLemmas.{plan_stays}
 use Rattle.tsb_step.proofs.Examples.Scenes.{opened}
-use Rattle.tsb_laws.specs.Stretches.{IsUntripped, NoneChooses, largest, StartsGreen}
+use Rattle.tsb_laws.specs.Stretches.{IsUntripped, has_no_trails, NoneChooses, NoneTrails, largest, StartsGreen}
 use Rattle.tsb_laws.specs.Crossings.{BeginsCrossing, TakesAtMost, CompletesWithin}
 use Rattle.tsb_laws.proofs.safety.CrossingLemmas.{completes_in_time}
 use Rattle.tsb_laws.proofs.safety.Examples.PlanFits.{Fits, values_fit, quad_fits, consistent}
-use Rattle.tsb_laws.proofs.safety.Examples.TickRuns.{ticks, now_then, none_choose, largest_then, all_taken, none_trips, AreTicks, older_ticks}
+use Rattle.tsb_laws.proofs.safety.Examples.TickRuns.{ticks, now_then, none_choose, none_trail, largest_then, all_taken, none_trips, AreTicks, older_ticks}
 use Rattle.tsb_laws.proofs.safety.Examples.CommitmentRuns.{IsKnown}
 
 -- ## A crossing that a preempt asks for in the second tick: it ends the walk of 2 and the greens of 2 and 6 at once
@@ -75,6 +75,10 @@ same_plan : (replay quick crossed).plan ≡ quick
 unfolding step
 same_plan = plan_stays (replay quick (Switch 1 true ∷ walked)) all_off ∙ plan_stays (start quick) all_off
 
+no_trails : has_no_trails (replay quick crossed).plan ≡ true
+unfolding opened quick
+no_trails = refl
+
 pub known : IsKnown quick crossed
 known = record {
   consistent = consistent limit quick quick_count breaks_none quick_fits;
@@ -85,6 +89,7 @@ known = record {
   choice = λ n. (let same : (replay quick crossed).plan.value PreemptChoosesAnew n ≡ quick.value PreemptChoosesAnew n =
       ap (λ (x : Plan). x.value PreemptChoosesAnew n) same_plan in
       let most : quick.value PreemptChoosesAnew n ≤ 0 = quick_fits.bounded PreemptChoosesAnew n in omega (arith, same, most));
+  untrailed = no_trails;
 }
 
 none_before : (replay quick (Switch 1 true ∷ walked)).rings.crossing ≡ None
@@ -122,6 +127,7 @@ record Crossing (plan : Plan) (is later : List Input) (row : Row) (d n : ℕ) : 
   taken : AreTaken plan (later ++ (Tick row ∷ is))
   untripped : IsUntripped plan (Tick row ∷ is) later
   choice : NoneChooses plan (Tick row ∷ is) later
+  untrailed : NoneTrails plan (Tick row ∷ is) later
   begins : BeginsCrossing plan is row d
   limit : TakesAtMost plan (Tick row ∷ is) n later
 
@@ -135,6 +141,7 @@ a_crossing = record {
   taken = all_taken quick all_off crossed 41 taken (in_time 41 (omega arith));
   untripped = none_trips quick all_off crossed known.consistent taken unlit 41 (in_time 41 (omega arith));
   choice = none_choose quick all_off crossed 41 known.choice;
+  untrailed = none_trail quick all_off crossed 41 no_trails;
   begins = begins_crossing;
   limit = takes_40 41;
 }
@@ -151,7 +158,7 @@ record Starts3 : Type 0 where
   started : StartsGreen quick (ticks all_off count ++ crossed) next 3
 
 starts_3 : Starts3
-starts_3 = go (completes_in_time quick (Switch 1 true ∷ walked) (ticks all_off 41) all_off 2 40 a_crossing.consistent a_crossing.few a_crossing.taken a_crossing.untripped a_crossing.choice a_crossing.begins a_crossing.limit)
+starts_3 = go (completes_in_time quick (Switch 1 true ∷ walked) (ticks all_off 41) all_off 2 40 a_crossing.consistent a_crossing.few a_crossing.taken a_crossing.untripped a_crossing.choice a_crossing.untrailed a_crossing.begins a_crossing.limit)
   where
     go : CompletesWithin quick crossed 2 41 (ticks all_off 41) → Starts3
     go (inl h) =

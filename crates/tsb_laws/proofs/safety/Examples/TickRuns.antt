@@ -18,7 +18,7 @@ use Rattle.tsb_step.specs.Runs.{replay, AreTaken}
 use Rattle.tsb_step.specs.Laws.{IsConsistent, is_unlit}
 use Rattle.tsb_step.specs.ClearanceLaws.{after_ticks}
 use Rattle.tsb_step.proofs.TripLemmas.{faults_alone_trip}
-use Rattle.tsb_laws.specs.Stretches.{IsUntripped, has_held_since, NoneChooses, largest}
+use Rattle.tsb_laws.specs.Stretches.{IsUntripped, has_held_since, has_no_trails, NoneChooses, NoneTrails, largest}
 use Rattle.tsb_step.proofs.ClearLemmas.{one_later, plan_stays, pattern_stays, correction_stays}
 
 -- so many ticks with these inputs on
@@ -81,6 +81,13 @@ module _ (plan : Plan) (row : Row) (is : List Input) where
           let same = ap (λ (x : Plan). x.value PreemptChoosesAnew p) (plan_then (suc n)) in
           let most = h p in
           omega (arith, same, most)
+
+  -- no overlap trails where none of the plan does
+  pub none_trail : (n : ℕ) → has_no_trails (replay plan is).plan ≡ true → NoneTrails plan is (ticks row n)
+  none_trail zero h = h
+  none_trail (suc n) h =
+      and_from (has_no_trails (replay plan (ticks row (suc n) ++ is)).plan) (has_held_since (λ s. has_no_trails s.plan) plan is (ticks row n))
+      (ap has_no_trails (plan_then (suc n)) ∙ h) (none_trail n h)
 
   pub largest_then : (time : Plan → ℕ) (n : ℕ) → largest time plan is (ticks row n) ≡ time (replay plan is).plan
   largest_then time zero = refl

@@ -19,7 +19,7 @@ use Rattle.tsb_step.specs.Step.{step}
 use Rattle.tsb_step.specs.Runs.{replay, AreTaken}
 use Rattle.tsb_step.specs.Laws.{IsConsistent, is_unlit}
 use Rattle.tsb_step.proofs.Examples.Scenes.{opened, vehicle}
-use Rattle.tsb_laws.specs.Stretches.{StartsGreen}
+use Rattle.tsb_laws.specs.Stretches.{has_no_trails, StartsGreen}
 use Rattle.tsb_laws.specs.Intergreens.{WalksBefore}
 use Rattle.tsb_laws.specs.Commitments.{CommitsTo}
 use Rattle.tsb_laws.proofs.safety.Examples.PlanFits.{Fits, no_choice, values_fit, quad_fits, consistent}
@@ -136,6 +136,13 @@ commits_to_1 = record {
   outside = outside;
 }
 
+no_trails_in_it : has_no_trails strolling ≡ true
+unfolding opened strolling
+no_trails_in_it = refl
+
+no_trails : has_no_trails (replay strolling (mid ++ walked)).plan ≡ true
+no_trails = ap has_no_trails (plan_then strolling (vehicle 1) walked 20 ∙ plan_then strolling all_off [] 1) ∙ no_trails_in_it
+
 known : IsKnown strolling (mid ++ walked)
 known = record {
   consistent = strolling_consistent;
@@ -146,6 +153,7 @@ known = record {
   choice = λ n. (let same : (replay strolling (mid ++ walked)).plan.value PreemptChoosesAnew n ≡ strolling.value PreemptChoosesAnew n =
       ap (λ (x : Plan). x.value PreemptChoosesAnew n) (plan_then strolling (vehicle 1) walked 20 ∙ plan_then strolling all_off [] 1) in
       let most : strolling.value PreemptChoosesAnew n ≤ 0 = strolling_fits.bounded PreemptChoosesAnew n in omega (arith, same, most));
+  untrailed = no_trails;
 }
 
 starts_1 : Starts strolling (mid ++ walked) all_off 1 40

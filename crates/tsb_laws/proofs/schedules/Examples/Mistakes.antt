@@ -1,14 +1,14 @@
 -- What the laws refuse: for each a mistake in the definitions, and by computing what comes of it. Beside each is what
 -- the definitions as they are make of the same.
-use Rattle.std.proofs.Common.{◌≡◌, ℕ, ◌==◌, if◌then◌else◌, Option, Some, None, refl, inl, inr}
+use Rattle.std.proofs.Common.{◌≡◌, ℕ, ◌==◌, false, if◌then◌else◌, Option, Some, None, refl, inl, inr}
 use Rattle.tsb_step.specs.tsb_plan.Acting.{in_force}
 use Rattle.tsb_step.specs.tsb_plan.Plan.{Plan}
 use Rattle.tsb_step.specs.tsb_plan.Quad.{quad}
-use Rattle.tsb_step.specs.tsb_plan.Schedule.{selected_by}
+use Rattle.tsb_step.specs.tsb_plan.Schedule.{omitted_by, selected_by}
 use Rattle.tsb_step.specs.tsb_machine.declared.commands.MachineCommand.TheVariants.{Apply}
 use Rattle.tsb_step.specs.declared.inputs.Input.{Input}
-use Rattle.tsb_step.specs.declared.inputs.Input.TheVariants.{Clock, Pattern, Reset}
-use Rattle.tsb_step.specs.Following.{action_from, selects}
+use Rattle.tsb_step.specs.declared.inputs.Input.TheVariants.{Clock, Omit, Pattern, Reset}
+use Rattle.tsb_step.specs.Following.{action_from, omits, selects}
 use Rattle.tsb_text.specs.declared.task.Task.TheVariants.{Ask}
 use Rattle.tsb_laws.specs.Schedules.{IsPart}
 use Rattle.tsb_laws.proofs.schedules.Examples.Witness.{before_one, opened, scheduled}
@@ -34,7 +34,8 @@ selects_free = refl
 is_no_part : IsPart (Ask (Apply (Clock before_one))) (Ask (Apply Reset)) → ⊥
 is_no_part (inl e) = cc
 is_no_part (inr (inl x)) = let e : Ask (Apply Reset) ≡ _ = x.3 in cc
-is_no_part (inr (inr x)) = let e : Ask (Apply Reset) ≡ _ = x.1 in cc
+is_no_part (inr (inr (inl x))) = let e : Ask (Apply Reset) ≡ _ = x.1 in cc
+is_no_part (inr (inr (inr x))) = let e : Ask (Apply Reset) ≡ _ = x.1 in cc
 
 -- ## Without a clock: tick number 0 is then the first moment
 
@@ -64,3 +65,17 @@ would_free = refl
 frees_not : selects quad (action_from quad None 0) (action_from quad (Some before_one) 0) ≡ None
 unfolding opened
 frees_not = refl
+
+-- ## A pattern alone: the arrows follow each pattern, also where they are those that are omitted
+
+abbrev at_each_pattern : Plan → Option ℕ → Option Input
+at_each_pattern plan None = None
+at_each_pattern plan (Some a) = Some (Omit (omitted_by plan a))
+
+would_omit : at_each_pattern scheduled (Some 1) ≡ Some (Omit 0)
+unfolding opened
+would_omit = refl
+
+omits_not : omits scheduled (Some 1) (λ o. false) ≡ None
+unfolding opened
+omits_not = refl

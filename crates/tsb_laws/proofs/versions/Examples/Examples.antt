@@ -12,9 +12,10 @@ use Rattle.tsb_step.specs.tsb_plan.Plan.{Plan}
 use Rattle.tsb_step.specs.tsb_plan.Quad.{quad}
 use Rattle.tsb_step.specs.tsb_plan.Two.{two}
 use Rattle.tsb_step.specs.tsb_rules.PatternRules.{split_sum, side_sum, split_end, coordinated_count}
-use Rattle.tsb_step.specs.tsb_rules.Rules.{first_broken, broken_by_rings, broken_by_phases, broken_by_parts, broken_by_extensions, broken_by_schedule}
+use Rattle.tsb_step.specs.tsb_rules.Rules.{first_broken, broken_by_rings, broken_by_phases, broken_by_parts, broken_by_extensions, broken_by_schedule, broken_by_overlaps}
 use Rattle.tsb_step.specs.tsb_heads.Overlaps.{is_kept_green, is_on_yellow}
-use Rattle.tsb_step.specs.tsb_heads.Monitoring.{conflict_of, conflict, green_to_red}
+use Rattle.tsb_step.specs.tsb_heads.Monitoring.{has_green_arrow, conflict_of, conflict, green_to_red}
+use Rattle.tsb_step.specs.tsb_overlap.Overlap as overlaps
 use Rattle.tsb_step.specs.tsb_calls.Memories.{has_output, actuations, has_button, vehicle_memory, pedestrian_memory, counted}
 use Rattle.tsb_step.specs.tsb_calls.Memories as calls
 use Rattle.tsb_step.specs.tsb_calls.Callable.{is_callable, has_conflict}
@@ -35,7 +36,7 @@ use Rattle.tsb_step.specs.tsb_preempt.Service.{all_green}
 use Rattle.tsb_step.specs.declared.inputs.Input.{Input}
 use Rattle.tsb_step.specs.declared.inputs.Input.TheVariants.{Tick, Switch, Fault}
 use Rattle.tsb_step.specs.State.{State, start}
-use Rattle.tsb_step.specs.Tick.{new_service, new_detectors, phases_given, rings_given, moves, gives_up, new_rings}
+use Rattle.tsb_step.specs.Tick.{new_service, new_detectors, phases_given, held, rings_given, moves, gives_up, new_rings}
 use Rattle.tsb_step.specs.Signs.{display, field, watched}
 use Rattle.tsb_step.specs.Step.{step, verdict}
 use Rattle.tsb_step.specs.Runs.{replay}
@@ -43,7 +44,7 @@ use Rattle.tsb_laws.specs.BuiltIn.{narrow_two, narrow_quad}
 
 -- all that a step computes
 unfoldable pub opened : Unit {0}
-unfolding quad two narrow_two narrow_quad run_from first_broken broken_by_rings broken_by_phases broken_by_parts broken_by_extensions broken_by_schedule split_sum side_sum split_end coordinated_count is_kept_green is_on_yellow has_output actuations has_button vehicle_memory pedestrian_memory counted is_callable has_conflict is_ready is_over red_revert_passed pedestrian_now maximum_in_use reduction_timer gap initial cars_waiting serving fits want pick_of_ring_1 want_of pick begins target_side entry committed completes starting ends clears new_last new_commitment new_side new_crossing rings_next.next ring_moves.moves ring_moves.interval_after force_off preempts.requesting preempts.beginning preempts.new_service preempts.dwell_ends all_green conflict_of conflict green_to_red new_service new_detectors phases_given rings_given moves gives_up new_rings display field watched step verdict
+unfolding quad two narrow_two narrow_quad run_from first_broken broken_by_rings broken_by_phases broken_by_parts broken_by_extensions broken_by_schedule broken_by_overlaps split_sum side_sum split_end coordinated_count is_kept_green is_on_yellow has_output actuations has_button vehicle_memory pedestrian_memory counted is_callable has_conflict is_ready is_over red_revert_passed pedestrian_now maximum_in_use reduction_timer gap initial cars_waiting serving fits want pick_of_ring_1 want_of pick begins target_side entry committed completes starting ends clears new_last new_commitment new_side new_crossing rings_next.next ring_moves.moves ring_moves.interval_after force_off preempts.requesting preempts.beginning preempts.new_service preempts.dwell_ends all_green has_green_arrow conflict_of conflict green_to_red overlaps.run_on overlaps.is_held overlaps.may_flash overlaps.settled overlaps.next new_service new_detectors phases_given held rings_given moves gives_up new_rings display field watched step verdict
 opened = tt
 
 -- the vehicle heads of phases 1 to 8
