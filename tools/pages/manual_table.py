@@ -15,24 +15,24 @@ import sys
 SOURCE = pathlib.Path("crates/tsb_plan/src/object.rt")
 MANUAL = pathlib.Path("docs/use/MANUAL.md")
 # Other documents that show examples.
-OTHERS = [pathlib.Path(it) for it in ("README.md", "docs/use/TUTORIAL.md", "docs/use/REVIEW.md")]
+OTHERS = [pathlib.Path(it) for it in ("README.md", "docs/use/TUTORIAL.md", "docs/use/REVIEW.md", "examples/ARROWS.md")]
 EXAMPLES = pathlib.Path("examples")
 BEGIN, END = "<!-- objects: written by tools/pages/manual_table.py -->", "<!-- end of objects -->"
 
-COMMENT = re.compile(r"`(\w+)`: (.+?), (.+); 0 to ([\d,]+)\.")
+COMMENT = re.compile(r"`(\w+)`: (.+?), (.+); 0 to ((?:\d+,)?\d+)(?:, and before version 3 0 to (\d+))?\.")
 ROW = re.compile(r'\s+(\w+) +"(\w+)" +\d+ \[(\d+) (\d+)\] +\[(?:since (\d)|(\d+) (\d+))\] +(structural|free)')
 
 # What some example has: commands, words of `when`, kinds of input that `undo` names.
-COMMANDS = """step back seek undo show when begin set verify commit abort pattern preempt fault reset clock quit""".split()
+COMMANDS = """step back seek undo show when begin set verify commit abort pattern preempt omit fault reset clock quit""".split()
 WATCHES = """interval ped call output alarm stage trip""".split()
-KINDS = """tick pattern switch fault reset begin set verify commit abort clock""".split()
+KINDS = """tick pattern switch fault reset begin set verify commit abort clock omit""".split()
 
 # Refusals that no example has: without memory, and behind 6,000,000 display lines.
 NOT_SHOWN = ["E1", "E11"]
 
 # How the names of objects begin, in the order in which the manual has them.
 STARTS = ["phase", "vehicle", "pedestrian", "overlap", "coord", "pattern", "split", "sequence", "preempt", "unit",
-          "timeBase", "dayPlan", "timebase"]
+          "timeBase", "dayPlan", "timebase", "action", "channel"]
 
 
 def comments(source):
@@ -51,7 +51,7 @@ def comments(source):
 
 def unit_of(words):
     """The unit of a value, without what says its use."""
-    clauses = words.replace(" (profile)", "").split(", ")
+    clauses = words.replace(" (profile)", "").split(" whose ")[0].split(", ")
     return ", ".join(it for it in clauses if not it.startswith(("whether ", "in use ")))
 
 
@@ -73,6 +73,7 @@ def objects():
         elif narrow_indices != indices:
             index += f" ({narrow_indices})"
         values = f"0 to {most}" + (f" ({narrow_most})" if not since and narrow_most != most else "")
+        values += f" ({comment[5]} before version 3)" if comment[5] else ""
         found[name] = [f"`{name}`", index, values, unit_of(comment[3]), "S" if change == "structural" else ""]
     if said:
         sys.exit(f"{SOURCE}: no row of the table for {', '.join(said)}")

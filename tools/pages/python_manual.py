@@ -13,7 +13,7 @@ from typing import Any
 MANUAL, FIELD = pathlib.Path("docs/use/MANUAL.md"), pathlib.Path("docs/use/FIELD.md")
 WRITTEN = pathlib.Path("python/tsb/manual.json")
 INDEX = re.compile(r"(?:(.+?),? )?1(?: to (\d+))?(?: \((?:(none|version \d)|(\d+))\))?")
-RANGE = re.compile(r"0 to (\d+)(?: \((\d+)\))?")
+RANGE = re.compile(r"0 to (\d+)(?: \((\d+)\))?(?: \((\d+) before version 3\))?")
 
 
 def rows(text: str, first: str, start: str) -> list[list[str]]:
@@ -24,7 +24,8 @@ def rows(text: str, first: str, start: str) -> list[list[str]]:
 
 
 def an_object(index: str, values: str, unit: str, structural: str, meaning: str) -> dict[str, Any]:
-    """What is said of an object: a count or a greatest value of version 1 is None where it has no such object."""
+    """What is said of an object: a count or a greatest value of version 1 is None where it has no such object. Where that
+    of version 2 is another than that of version 3, it is said too."""
     counted, most = INDEX.fullmatch(index), RANGE.fullmatch(values)
     if counted is None or most is None:
         sys.exit(f"{MANUAL}: the object of {meaning!r} has an index or a range of another form")
@@ -35,7 +36,7 @@ def an_object(index: str, values: str, unit: str, structural: str, meaning: str)
         "index": what or "", "count": wide, "count_1": None if later else int(narrow or wide),
         "greatest": int(most[1]), "greatest_1": None if later else int(most[2] or most[1]),
         "since": since, "unit": unit, "structural": structural == "S", "meaning": meaning,
-    }
+    } | ({"greatest_2": int(most[3])} if most[3] else {})
 
 
 def objects(text: str) -> dict[str, Any]:

@@ -14,27 +14,30 @@ MANUAL = "MANUAL"
 # The question of each part of the site, and its pages by their documents. A number is a chapter of the manual.
 PARTS: dict[str, list[str]] = {
     "Use it": ["MANUAL 1", "MANUAL 2", "MANUAL 3", "MANUAL 4", "MANUAL 5", "MANUAL 6", "MANUAL 7", "MANUAL 8",
-               "MANUAL 9", "TUTORIAL", "REVIEW", "FIELD", "LIVE", "PYTHON", "SCENARIOS", "EXCHANGE", "PANEL", "SUMO",
-               "EXAMPLES", "GLOSSARY"],
+               "MANUAL 9", "ARROWS", "TUTORIAL", "REVIEW", "FIELD", "LIVE", "PYTHON", "SCENARIOS", "EXCHANGE", "PANEL",
+               "SUMO", "EXAMPLES", "GLOSSARY"],
     "Trust it": ["PROVED", "SAFETY", "EVIDENCE", "PEERS", "SPEED", "READING", "WRONG_BODIES", "LAWS"],
     "Work on it": ["CONTRIBUTING", "CONTRACTS", "DECISIONS", "DEFINITIONS", "CHANGELOG", "SECURITY"],
 }
 HOME = "index"
 # What such a page is called in the navigation, where its heading is too long.
 SHORT = {"FIELD": "Event logs and diagrams", "PYTHON": "Python, reports, sweeps", "READING": "From a question to its rule",
-         "SCENARIOS": "Tests of a plan"}
+         "SCENARIOS": "Tests of a plan", "ARROWS": "Arrows, an example"}
 # Documents that are not in the folders of docs/.
 ELSEWHERE = {HOME: "README.md", "CONTRIBUTING": "CONTRIBUTING.md", "CHANGELOG": "CHANGELOG.md",
-             "SECURITY": "SECURITY.md", "EXAMPLES": "examples/README.md"}
+             "SECURITY": "SECURITY.md", "EXAMPLES": "examples/README.md",
+             "ARROWS": "examples/ARROWS.md"}
 FENCE = "```"
 LANGUAGES = {"sh", "python"}
 # What stays as it is: code, and links.
 KEPT = re.compile(r"(`+[^`]+`+|!?\[[^\]]*\]\([^)]*\))")
 # A document, and after it a chapter or a heading; a chapter alone, within the manual.
-CITED = re.compile(r'\b(?P<path>(?:docs/\w+/)?(?P<page>[A-Z_]+)\.md|examples/README\.md)'
+CITED = re.compile(r'\b(?P<path>(?:docs/\w+/|examples/)?(?P<page>[A-Z_]+)\.md|examples/README\.md)'
                    r'(?:, (?:chapter (?P<chapter>\d+)|"(?P<heading>[^"]+)"))?')
 CHAPTER = re.compile(r"\b[Cc]hapter (\d+)\b")
 PICTURE = re.compile(r"(!\[[^\]]*\]\()(?:(?:\.\./)+|docs/use/)")
+# A picture that lies beside its document.
+BESIDE = re.compile(r"(!\[[^\]]*\]\()(?=[\w.]+\))")
 ITEM = re.compile(r"(- |\d+\. )")
 
 
@@ -148,7 +151,10 @@ def site_lines(name: str, text: str, marks: Marks) -> Iterator[str]:
         else:
             if ITEM.match(line) and was and not was.startswith(("- ", "  ")) and not ITEM.match(was):
                 yield ""
-            yield cited(name, PICTURE.sub(r"\1", line), marks)
+            placed = PICTURE.sub(r"\1", line)
+            if ELSEWHERE.get(name, "").startswith("examples/"):
+                placed = BESIDE.sub(r"\1examples/", placed)
+            yield cited(name, placed, marks)
         was = line
 
 

@@ -37,7 +37,7 @@ CONTRACTS = pathlib.Path("docs/work/CONTRACTS.md")
 WORDS = {it: k for k, it in enumerate("one two three four five six seven eight nine ten eleven twelve".split(), 1)}
 # The layers whose cells are numbered, in the order of CONTRACTS, with their crates; the plan's are in tsb_plan.
 LAYERS = {"desk": "tsb_transact", "detectors": "tsb_detect", "calls": "tsb_calls", "phases": "tsb_phase",
-          "rings": "tsb_ring", "coordination": "tsb_coord", "preempts": "tsb_preempt"}
+          "rings": "tsb_ring", "coordination": "tsb_coord", "preempts": "tsb_preempt", "overlaps": "tsb_overlap"}
 
 # Types of tests, comparisons and times are not looked at.
 UNPROVED = {"tsb_tests", "tsb_field_tests", "tsb_layer_runs", "tsb_runs"}

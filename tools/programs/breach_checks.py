@@ -8,7 +8,7 @@ from collections.abc import Callable
 from tools.programs import breach_cases, breach_rules, review_cases
 from tools.programs.review_cases import Table
 
-RULES = 27
+RULES = 29
 # What a plan has many of, with values that break rules. The number is that of the indices that are changed.
 LISTS = [0, 1, 2, 3, 8, 9, 17, 34, 42, 48, 72, 129, 136, 192, 256, 304, 65535]
 VALUES: dict[str, tuple[int, list[int]]] = {
@@ -17,7 +17,8 @@ VALUES: dict[str, tuple[int, list[int]]] = {
     "phasePassage": (8, [0, 20, 26, 255]), "phaseMinimumGreen": (8, [0, 5, 26, 255]), "phaseMaximum1": (8, [0, 4, 5, 255]),
     "phaseMaximum2": (8, [0, 4, 5, 255]), "phasePedRecall": (9, [0, 1]), "phaseWalk": (8, [0, 7]), "phaseRedClear": (8, [0, 15, 255]),
     "vehicleDetectorCallPhase": (16, [0, 1, 8, 9, 16]), "pedestrianDetectorCallPhase": (8, [0, 1, 2, 9]),
-    "overlapIncludedPhases": (4, LISTS), "overlapModifierPhases": (4, LISTS), "overlapType": (4, [0, 1]),
+    "overlapIncludedPhases": (4, LISTS), "overlapModifierPhases": (4, LISTS), "overlapType": (4, [0, 1, 2]),
+    "overlapTrailGreen": (4, [0, 6]), "overlapTrailYellow": (4, [0, 29, 30]),
     "preemptTrackPhase": (4, LISTS), "preemptDwellPhase": (4, LISTS), "preemptExitPhase": (4, LISTS),
     "patternCycleTime": (3, [0, 1, 89, 90, 91]), "patternOffsetTime": (3, [0, 45, 89, 90, 254]), "patternSplitNumber": (3, [0, 1, 2, 8]),
     "patternSequenceNumber": (3, [0, 1, 2, 4]), "splitTime": (32, [0, 9, 10, 19, 20, 25, 255]), "splitMode": (32, [0, 1, 5]),

@@ -17,6 +17,8 @@ PLACES = range(16)
 LISTS = ("Track", "Dwell", "Exit")
 # The least yellow, in tenths of a second.
 YELLOW = 30
+# The type of an overlap that is a flashing yellow arrow.
+ARROW = 2
 
 # A rule, the way in which it is broken, and what a line says behind the rule.
 Told = tuple[int, int, str]
@@ -143,6 +145,24 @@ def overlaps(plan: Plan) -> Iterator[Told]:
             yield 21, 1, f"overlap {o}: it has modifier phases, and its type is 0"
 
 
+def arrows(plan: Plan) -> Iterator[Told]:
+    """Rules K28 and K29."""
+    for o in OVERLAPS:
+        kind, green, yellow = (plan.value(f"overlap{it}", o) for it in ("Type", "TrailGreen", "TrailYellow"))
+        included, turns = (named(plan, f"overlap{it}Phases", o) for it in ("Included", "Modifier"))
+        if kind == ARROW and not included:
+            yield 28, 0, f"overlap {o}: it is an arrow, and includes no phase"
+        if kind == ARROW and len(turns) != 1:
+            yield 28, 1, f"overlap {o}: it is an arrow with {len(turns)} modifier phases, not 1"
+        for p in included if kind == ARROW else ():
+            if any(turn == p or plan.together(turn, p) for turn in turns):
+                yield 28, 2, f"overlap {o}: its modifier phase goes with phase {p}"
+        if yellow < YELLOW and (yellow or green):
+            yield 29, 0, f"overlap {o}: its trailing yellow of {seconds(yellow)} s is under 3.0 s"
+        if green and kind:
+            yield 29, 1, f"overlap {o}: it trails, and its type is {kind}"
+
+
 def preempts(plan: Plan) -> Iterator[Told]:
     """Rules K15 and K16."""
     for m in PREEMPTS:
@@ -267,6 +287,6 @@ def breaches(text: Table) -> list[str]:
     """The lines of all places at which a plan breaks a rule, in order."""
     plan = Plan(text)
     parts = (rings_and_sides, concurrency, sequences, times, calls, overlaps, preempts, numbers, patterns, permissive,
-             schedules)
+             schedules, arrows)
     told = [it for part in parts for it in part(plan)]
     return [f"K{rule} {line}" for rule, _way, line in sorted(told, key=lambda it: it[:2])]

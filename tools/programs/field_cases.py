@@ -24,6 +24,7 @@ USAGE = (
     b"    or tsb_field review PLAN\n"
     b"    or tsb_field schedule [--svg] --week DATE PLAN\n"
     b"    or tsb_field worksheet PLAN\n"
+    b"    or tsb_field card [--against FILE] PLAN\n"
 )
 A_TIME = b'a time is YYYY-MM-DD HH:MM:SS, such as "2026-11-22 07:00:00"\n'
 
@@ -44,8 +45,8 @@ MOST_ROWS = 1_720_740
 
 # Words, and what is printed of them: written by hand from docs/use/FIELD.md.
 WRONG = [
-    (["frob"], b'there is no command "frob": log, record, events, diagram, review, schedule or worksheet'),
-    (["-h"], b'there is no command "-h": log, record, events, diagram, review, schedule or worksheet'),
+    (["frob"], b'there is no command "frob": log, record, events, diagram, review, schedule, worksheet or card'),
+    (["-h"], b'there is no command "-h": log, record, events, diagram, review, schedule, worksheet or card'),
     ([*LOG, "--title", "x"], b"--title: the command has no such option; --help after it lists all"),
     ([*LOG, "--zone", "EST"], b'--zone "EST": a zone is an offset such as -07:00, or Z'),
     ([*LOG, "--zone=-Z"], b'--zone "-Z": a zone is an offset such as -07:00, or Z'),
@@ -81,6 +82,11 @@ WRONG = [
     (["schedule", "--week"], b"--week has no value (one that begins with a hyphen comes after =): " + A_DATE),
     (["worksheet"], b"worksheet names one file, PLAN"),
     (["worksheet", "--week", "quad.json"], b"--week: the command has no such option; --help after it lists all"),
+    (["card"], b"card names one file, PLAN"),
+    (["card", "quad.json", "tee.json"], b"card names one file, PLAN"),
+    (["card", "quad.json", "--against"],
+     b"--against has no value (one that begins with a hyphen comes after =): a name or a text has to follow"),
+    (["card", "--against=a", "--against", "b", "quad.json"], b"--against comes twice"),
     (["schedule", *FROM, "quad.json"], b"--from: the command has no such option; --help after it lists all"),
 ]
 
@@ -883,6 +889,7 @@ def word_runs():
         ([*LOG, "--as-output=quad.json"], b"--as-outputs"), ([*RECORD, "empty.log", "--recall"], b"--recalls"),
         ([*RECORD, "empty.log", "--output"], b"--outputs"), ([*RECORD, "empty.log", "--no-clok"], b"--no-clock"),
         (["schedul", "quad.json"], b"schedule"), (["worksheets", "quad.json"], b"worksheet"),
+        (["crad", "quad.json"], b"card"), (["card", "--agianst=a", "quad.json"], b"--against"),
         (["schedule", "--weak", "2026-11-22"], b"--week"),
         (["schedule", "--swg", "--week=2026-11-22", "quad.json"], b"--svg"),
     ]:

@@ -84,7 +84,7 @@ LONGEST_DEVICE = 900
 NOTHING_LIT = 0, b"-" * 16, b"-" * 16, b"-" * 16, b"0"
 
 # The classes of the bars of a diagram, by the letters of display lines, and the names of the bands of inputs.
-CLASSES = {"G": "g", "Y": "y", "R": "r", "F": "f", "W": "w", "C": "c", "D": "d"}
+CLASSES = {"G": "g", "Y": "y", "R": "r", "F": "f", "P": "q", "W": "w", "C": "c", "D": "d"}
 INPUTS = {"vehicle": "detector", "pedestrian": "ped detector", "preempt": "preempt input"}
 
 HEADER = b"SignalID,Timestamp,EventCode,EventParam\n"
@@ -95,9 +95,9 @@ FORM_TIME = re.compile(
 OFFSET = re.compile(rb"([+-]\d{1,2}?)(?::?(\d\d))?")
 FIELDS = {mark: re.compile(rb'(?:"([^"]*)"|([^"%b][^%b]*|))(%b|\Z)' % (mark, mark, mark), re.S) for mark in MARKS}
 ROWS = re.compile(rb"\((\d{1,10}) rows?(?: affected)?\)")
-SHOWN = re.compile(rb"(\d{7}) ([-RYGF]{16}) ([-DCW]{16}) ([-RYGF]{4}) ([0-8]) (?:\d{4}|-{4})")
+SHOWN = re.compile(rb"(\d{7}) ([-RYGF]{16}) ([-DCW]{16}) ([-RYGPF]{4}) ([0-8]) (?:\d{4}|-{4})")
 # A wide display line has the letters of overlaps 1 to 16 behind it, which then count.
-WIDE = re.compile(rb"(\d{7}) ([-RYGF]{16}) ([-DCW]{16}) [-RYGF]{4} ([0-8]) (?:\d{4}|-{4}) ([-RYGF]{16})")
+WIDE = re.compile(rb"(\d{7}) ([-RYGF]{16}) ([-DCW]{16}) [-RYGPF]{4} ([0-8]) (?:\d{4}|-{4}) ([-RYGPF]{16})")
 
 
 class Fault(Exception):
@@ -597,7 +597,8 @@ def display_events(before, now):
 
     found = begun(1, b"G", 1) + ended(7, b"G", 1) + begun(8, b"Y", 1) + ended(9, b"Y", 1)
     found += begun(21, b"W", 2) + begun(22, b"C", 2) + ended(23, b"WC", 2)
-    found += begun(61, b"G", 3) + begun(63, b"Y", 3) + ended(64, b"GY", 3)
+    found += begun(32, b"P", 3) + ended(33, b"P", 3)
+    found += begun(61, b"G", 3) + begun(63, b"Y", 3) + ended(64, b"GYP", 3)
     if now[4] not in (b"0", before[4]):
         found.append((105, int(now[4])))
     was, is_now = b"F" in before[1], b"F" in now[1]

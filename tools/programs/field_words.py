@@ -62,14 +62,16 @@ OPTIONS: dict[str, dict[str, Taken]] = {
     "review": {},
     "schedule": {"--week": DATE, "--svg": FLAG},
     "worksheet": {},
+    "card": {"--against": TEXT},
 }
 NEEDED: dict[str, list[str]] = {"log": ["--from"], "record": ["--from", "--device"], "events": ["--from", "--device"],
           "diagram": [], "review": [],
-          "schedule": ["--week"], "worksheet": []}
+          "schedule": ["--week"], "worksheet": [], "card": []}
 ANSWERS = b"this command names files by options alone: it reads what `tsb run` answers from standard input"
 FILES = {"log": b"log names no file: it reads an event log from standard input", "record": b"record names two files, PLAN and LOG",
          "review": b"review names one file, PLAN", "events": ANSWERS, "diagram": ANSWERS,
-         "schedule": b"schedule names one file, PLAN", "worksheet": b"worksheet names one file, PLAN"}
+         "schedule": b"schedule names one file, PLAN", "worksheet": b"worksheet names one file, PLAN",
+         "card": b"card names one file, PLAN"}
 
 
 def shown(word: bytes) -> bytes:
@@ -115,7 +117,7 @@ def line(given: Sequence[Word]) -> bytes | None:
         return None
     command = words[0].decode()
     if command not in OPTIONS:
-        return b'there is no command "' + shown(words[0]) + b'": log, record, events, diagram, review, schedule or worksheet\n'
+        return b'there is no command "' + shown(words[0]) + b'": log, record, events, diagram, review, schedule, worksheet or card\n'
     front = words[1:words.index(b"--", 1)] if b"--" in words[1:] else words[1:]
     if any(word.partition(b"=")[0] == b"--help" for word in front):
         return None

@@ -15,7 +15,7 @@ ALL_OFF = "0000000000000000 00000000 0000"
 TIMES, SAVED = 12, 1000
 FROM, DEVICE = "2026-11-22 07:00:00", "7"
 TIME = re.compile(r"2026-11-22 ([0-9]{2}):([0-9]{2}):([0-9]{2})\.([0-9])")
-DISPLAY = re.compile(rb"[0-9]{7} [-RYGF]{16} [-DCW]{16} [-RYGF]{4} [0-8] [-0-9]{4}\n")
+DISPLAY = re.compile(rb"[0-9]{7} [-RYGF]{16} [-DCW]{16} [-RYGPF]{4} [0-8] [-0-9]{4}\n")
 
 
 def lines_at_random(rng: random.Random, many: int, goes_back: bool) -> list[str]:

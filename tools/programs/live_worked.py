@@ -71,6 +71,12 @@ def changes(live: pathlib.Path, tsb: pathlib.Path) -> list[str]:
 
 COMMIT = ["begin 1", "set 1 phaseMaximum1 2 37", "set 1 unitRedRevert 1 20", "verify 1"]
 ASKED = ["plan", *COMMIT, "plan", "commit 1", "plan", "undo", "plan"]
+# What a plan of version 3 has besides, and the version of its line.
+TURN = {"overlapIncludedPhases": {"1": 2}, "overlapModifierPhases": {"1": 1}}
+VERSIONS: list[tuple[dict[str, dict[str, int]], int]] = [
+    ({}, 2), ({**TURN, "overlapType": {"1": 1}}, 2), ({**TURN, "overlapType": {"1": 2}}, 3),
+    ({"overlapArrowDelay": {"16": 0}}, 2), ({"overlapArrowDelay": {"1": 1}}, 3), ({"vehicleDetectorDelay": {"17": 1}}, 3),
+]
 COMMIT_BACK = ["commit 1", "begin 1", "set 1 unitRedRevert 1 0", "verify 1", "commit 1", "plan"]
 
 
@@ -109,6 +115,18 @@ def plans(live: pathlib.Path, tsb: pathlib.Path) -> list[str]:
             texts = [[plan, log] for plan in (plan_of(name), told[0])]
             first, second = (ran_on(tsb, ["run"], both, commands) for both in texts)
             wrong += difference(f"plan {name}, session {number}", second, first[1])
+    return wrong + versions(live, tsb)
+
+
+def versions(live: pathlib.Path, tsb: pathlib.Path) -> list[str]:
+    """The line of a plan is of version 2 where that has all that the plan has, else of version 3."""
+    wrong = []
+    for more, version in VERSIONS:
+        plan = json.dumps({**json.loads(plan_of("main_and_oak")), "version": 3, **more}).encode()
+        _, answers, _ = ran_on(live, [], [plan], b"plan\n")
+        if not answers.startswith(b'{"version":%d,' % version):
+            wrong.append(f"plan with {more}: its line is {answers[:40]!r} .., and not of version {version}")
+        wrong += difference(f"plan with {more}, check", ran_on(tsb, ["check"], [answers.strip()], b""), b"plan ok\n")
     return wrong
 
 
@@ -221,7 +239,7 @@ def clocked(live: pathlib.Path) -> list[str]:
 
 # What each of its lines begins with: a row, the commands of docs/use/MANUAL.md, chapter 6, and those of docs/use/LIVE.md.
 HELPED = ["ROW", "step", "changes", "back", "seek", "goto", "tick", "undo", "show", "status", "plan", "edits", "when", "when", "begin",
-          "set", "verify", "commit", "abort", "pattern", "preempt", "fault", "reset", "clock", "events", "echo", "lines", "save", "help", "quit"]
+          "set", "verify", "commit", "abort", "pattern", "preempt", "omit", "fault", "reset", "clock", "events", "echo", "lines", "save", "help", "quit"]
 
 
 def helped(live: pathlib.Path) -> list[str]:

@@ -70,6 +70,8 @@ TESTS = {
     "diff": DIFF,
     "patterns": DIFF,
     "worksheet": ["tests/test_worksheet.py"],
+    "card": [f"tests/test_arrows.py::{it}" for it in (
+        "test_lines_of_no_card", "test_a_card_by_hand", "test_a_card_that_is_none")],
     "sheet.spreadsheet": [f"tests/test_timing_sheet.py::{it}" for it in (
         "test_out_and_in_is_the_plan", "test_the_tables", "test_a_cell_that_is_wrong",
         "test_all_wrong_cells_are_listed", "test_what_a_hand_may_change", "test_texts_of_strangers",

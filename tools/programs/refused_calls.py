@@ -34,12 +34,13 @@ BAD = [["what"], ["run", PLAN], ["check", PLAN, "--what"]]
 INPUTS = [
     "pattern 1", "preempt 1 on", "step 3", "fault P2 G", "fault P2 R", "reset", "fault none", "begin 1",
     "set 1 phaseMaximum1 2 30", "verify 1", "commit 1", "begin 2", "abort 2", "preempt 1 off", "pattern 0",
-    "clock 2026-11-22 07:00:00", "step 2",
+    "clock 2026-11-22 07:00:00", "omit 3", "step 2",
 ]
-KINDS = ["step", "pattern", "preempt", "fault", "reset", "begin", "set", "verify", "commit", "abort", "clock"]
+KINDS = ["step", "pattern", "preempt", "fault", "reset", "begin", "set", "verify", "commit", "abort", "clock",
+         "omit"]
 WAY_BACK = ["show", "undo", "undo", "when interval 2", "back 3", "seek 1", "show", "undo", "undo", "show"]
 
-# The first input asks for memory. It gets 2,048 bytes more than a record of 369 cells takes, and each input up to a commit
+# The first input asks for memory. It gets 2,048 bytes more than a record of 407 cells takes, and each input up to a commit
 # asks for no more. So another one asks where these bytes are used up: behind `NEARLY`, the third input does, and each kind
 # is the third there.
 NEARLY = [*["begin 1", "abort 1"] * 67, *["reset"] * 5]

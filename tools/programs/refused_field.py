@@ -60,6 +60,9 @@ OTHERS = [
     (["worksheet", "examples/main_and_oak.json"], b""),
     (["worksheet", "examples/two_short_yellow.json"], b""),
     (["worksheet", "none.json"], b""),
+    (["card", "examples/arrows.json"], b""),
+    (["card", f"--against={LOG}", "examples/arrows.json"], b""),
+    (["card", "--against=none.txt", "examples/arrows.json"], b""),
     (["schedule", "--week=2026-12-06", "examples/schedule.json"], b""),
     (["schedule", "--week=2026-12-06", "--svg", "examples/schedule.json"], b""),
     (["what"], b""),
@@ -112,7 +115,7 @@ def reads(program, wrong):
     """Fails each other read. One of a file that is interrupted is tried again; one of standard input is not."""
     for words, text in OTHERS:
         whole = program.run(words, text)[:3]
-        files = [word for word in words if word.endswith((".json", ".log"))]
+        files = [word.removeprefix("--against=") for word in words if word.endswith((".json", ".log"))]
         for error in [errno.EIO, errno.EINTR]:
             for number, ended in program.sweep(words, text, kind="read", error=error, piece=PIECE):
                 others = [whole] if error == errno.EINTR else [(3, b"", not_read(path)) for path in files]

@@ -29,7 +29,7 @@ ALONE = [it for it in INPUTS if not it.startswith("step")]
 TOLD = ["events on", "echo on", ROW, *ALONE, OTHER, "when input 2", "save", "events off", ROW, "save"]
 STRICT = ["--strict", PLAN]
 KINDS = ["row", "step", "changes", "plan", "pattern", "preempt", "fault", "reset", "begin", "set", "verify", "commit",
-         "abort"]
+         "abort", "clock", "omit"]
 
 
 def without(lines: list[str], place: int) -> tuple[list[str], str, int]:

@@ -225,12 +225,18 @@ CASES = [
     Case(39, {"overlapIncludedPhases.1": 24},
          ["overlap 1: it includes phases 4 and 5 of two rings that are not concurrent, so it turns yellow between them"],
          {"overlapAcrossRings.1": 1}),
+    # (an arrow is yellow after each phase by which it flashes)
+    Case(39, {"overlapIncludedPhases.1": 130},
+         ["overlap 1: it includes phases 2 and 8 of two rings that are not concurrent, so it turns yellow between them"],
+         {"overlapType.1": 2, "overlapModifierPhases.1": 1}),
     Case(40, {"overlapType.1": 1, "overlapModifierPhases.1": 64},
          ["overlap 1: phase 7 is an included and a modifier phase, so it is not green with it"], {"overlapModifierPhases.1": 4}),
     Case(41, {"overlapIncludedPhases.1": 33}, ["overlap 1: no phase of it follows another in a ring, so it shows what its phases show"],
          {"overlapIncludedPhases.1": 41}),
     Case(41, {"overlapIncludedPhases.2": 1}, ["overlap 2: no phase of it follows another in a ring, so it shows what its phases show"],
          {"overlapType.2": 1, "overlapModifierPhases.2": 2}),
+    Case(41, {"overlapIncludedPhases.2": 8}, ["overlap 2: no phase of it follows another in a ring, so it shows what its phases show"],
+         {"overlapTrailGreen.2": 6, "overlapTrailYellow.2": 36}),
     # Phases 3 and 7 have 15 s of green in splits of 20 s, and 4 and 8 have 20 s.
     Case(42, {"coordMaximumMode.1": 1, "phaseMaximum1.4": 19},
          ["phase 4: its maximum of 19 s is under the 20 s of green that its split leaves in pattern 1"], {"phaseMaximum1.4": 20}),

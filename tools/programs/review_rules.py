@@ -517,14 +517,14 @@ def overlaps(plan: Plan) -> Iterator[tuple[int, str]]:
         modifiers = [p for p in PHASES if plan.listed("overlapModifierPhases", o, p)]
         ring = {p: plan.phase("Ring", p) for p in included}
         apart = [(p, q) for p in included for q in included if ring[p] != ring[q] and not plan.together(p, q)]
-        if apart and not plan.value("overlapAcrossRings", o):
+        if apart and not plan.value("overlapAcrossRings", o) and plan.value("overlapType", o) != 2:
             yield 39, (f"overlap {o}: it includes phases {apart[0][0]} and {apart[0][1]} of two rings "
                        "that are not concurrent, so it turns yellow between them")
         for p in included:
             if p in modifiers:
                 yield 40, f"overlap {o}: phase {p} is an included and a modifier phase, so it is not green with it"
         followed = any(p != q and ring[p] == ring[q] for p in included for q in included)
-        if included and not modifiers and not apart and not followed:
+        if included and not modifiers and not apart and not followed and not plan.value("overlapTrailGreen", o):
             yield 41, f"overlap {o}: no phase of it follows another in a ring, so it shows what its phases show"
 
 

@@ -19,7 +19,8 @@ import sys
 import tempfile
 import xml.etree.ElementTree
 
-from tools.programs import field_cases, field_rules, review_words, schedule_words, week_pictures, worksheet_words
+from tools.programs import (card_words, field_cases, field_rules, review_words, schedule_words, week_pictures,
+                            worksheet_words)
 from tools.programs.field_cases import BEGIN, FROM, GIB, LONGEST_LOG, MOST_ROWS
 from tools.programs.run_program import EXAMPLES, shown
 
@@ -38,6 +39,7 @@ OPTIONS = [
     ("coordination_maximum", "coordination", "coordination", "coordMaximumMode", (0, 1), 300),
     ("permissive_time", "coordination", "permissive_time", "patternPermissiveTime", (0, 5), 300),
     ("lead_and_lag", "coordination", "lead_and_lag", "pattern", (1, 2), 300),
+    ("arrows", "arrows", "lead_and_lag", "pattern", (1, 2), 300),
     ("pedestrian_recycle", "pedestrian_recycle", "pedestrian_recycle", "phasePedestrianRecycle", (0, 1), 300),
     ("coming_into_step", "coming_into_step", "coming_into_step", "coordCorrectionMode", (0, 1, 2, 3), 360),
 ]
@@ -252,7 +254,7 @@ def sorted_exports(program):
 def random_display(chance, is_wide=False):
     """What a session may answer: display lines that go on or back, wide ones or not, and other answers."""
     tick, fields = 0, [["-RG"[n % 3] for n in range(16)], ["-D"[n % 2] for n in range(16)], ["-"] * 4, ["0"]]
-    letters = ["-RYGF", "-DCW", "-RYGF", "0012345678"]
+    letters = ["-RYGF", "-DCW", "-RYGPF", "0012345678"]
     overlaps = ["-"] * 16
     for _ in range(chance.randrange(80)):
         tick = max(1, tick + chance.choice([1, 1, 1, 1, 5, 0, -1, -7]))
@@ -542,7 +544,7 @@ def main(words):
         field_cases.fill(folder)
         weeks = schedule_words.weeks_at_random(folder)
         runs = [*worked_runs(), *schedule_words.at_random_runs(weeks),
-                *worksheet_words.at_random_runs(folder)]
+                *worksheet_words.at_random_runs(folder), *card_words.runs(folder), *card_words.at_random_runs(folder)]
         wrong = [f"{run.words} {run.places or ''}{shown(run.commands)}: {it}" for run in runs
                  for it in run.differences(program, folder)]
         wrong += [*round_trips(program, folder), *logs_of_events(program), *logs_of_exports(program)]

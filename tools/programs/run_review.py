@@ -114,6 +114,11 @@ def at_random(source: random.Random, bases: list[Table]) -> Table:
     if source.random() < 0.1:
         # (ring 2 serves its left turn of side 1 last, and may end its coordinated split before ring 1)
         change |= {"sequenceData.17": 6, "sequenceData.18": 5, "patternLeadLag.1": 1}
+    if source.random() < 0.1:
+        # (an arrow of the turn of phase 1, or an overlap that trails)
+        change |= {"overlapIncludedPhases.1": source.choice([2, 130]), "overlapType.1": 2, "overlapModifierPhases.1": 1}
+    elif source.random() < 0.1:
+        change |= {"overlapIncludedPhases.1": source.choice([1, 3]), "overlapTrailGreen.1": 5, "overlapTrailYellow.1": 30}
     if source.random() < 0.2:
         change = {**review_cases.EACH_DAY, **change}
     if source.random() < 0.1:

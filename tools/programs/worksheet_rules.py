@@ -23,15 +23,25 @@ class Worksheet(Plan):
         """The red revert of a phase."""
         return max(self.phase("RedRevert", phase), self.value("unitRedRevert", 1))
 
+    def trail(self, phase: int) -> int:
+        """The longest yellow and red clearance of an overlap that trails a phase."""
+        return max((self.value("overlapTrailYellow", o) + self.value("overlapTrailRed", o) for o in OVERLAPS
+                    if self.value("overlapTrailGreen", o) and self.value("overlapIncludedPhases", o) >> phase - 1 & 1), default=0)
+
+    def waits(self, phase: int) -> int:
+        """How long a phase is waited for while another one may be green: a trail may begin late in its clearance."""
+        trail = self.trail(phase)
+        return max(max(self.leaving(phase), trail) + trail, self.revert(phase))
+
     def entry(self, preempt: int) -> int:
         """The longest entry of a preempt."""
         walks = max(self.left(preempt, p) for p in PHASES)
         reverts = max(map(self.revert, PHASES))
-        clears = max(reverts, *map(self.leaving, PHASES))
+        clears = max(reverts, *map(self.trail, PHASES), *map(self.leaving, PHASES))
         green = 10 * self.value("preemptMinimumGreen", preempt) + 1
         if self.value("preemptChoosesAnew", preempt) and not any(self.value("overlapIncludedPhases", o) for o in OVERLAPS):
             return max(walks, green, reverts) + clears + 4
-        return max(walks, clears + green) + clears + 4
+        return max(walks, max(map(self.waits, PHASES)) + green) + clears + 4
 
     def instant(self, pattern: int, phase: int) -> int:
         """The force-off instant of a phase: from the end of the split of the coordinated phase of ring 1, or else of the

@@ -36,6 +36,7 @@ VALUES = {
     "phaseRedClear": (16, [0, 15, 255]), "phaseRedRevert": (16, [0, 21, 120, 255]), "unitRedRevert": (1, [0, 20, 255]),
     "preemptDelay": (4, [0, 1, 600]), "preemptMinimumGreen": (4, [0, 5, 25, 255]), "preemptMinimumWalk": (4, [0, 4, 255]),
     "preemptEnterPedClear": (4, [0, 8, 255]), "preemptChoosesAnew": (4, [0, 1, 1]), "preemptDwellPhase": (4, [34, 136, 2]),
+    "overlapTrailGreen": (1, [0, 6]), "overlapTrailYellow": (1, [30, 100, 255]), "overlapTrailRed": (1, [0, 15, 255]),
     "overlapIncludedPhases": (1, [0, 0, 96]), "splitMode": (8, [0, 2, 5]), "splitCoordPhase": (8, [0, 1]),
 }
 

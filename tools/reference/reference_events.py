@@ -43,8 +43,9 @@ INTERVAL_ENDS = {7: "G", 9: "Y", 12: "GYC"}
 PEDESTRIAN_BEGINS = {21: "W", 22: "C"}
 PEDESTRIAN_ENDS = {23: "WC"}
 # Heads of overlaps: green and yellow.
-OVERLAP_BEGINS = {61: "G", 63: "Y"}
-OVERLAP_ENDS = {64: "GY"}
+OVERLAP_BEGINS = {32: "P", 61: "G", 63: "Y"}
+OVERLAP_ENDS = {33: "P", 64: "GYP"}
+ARROW, TRAILING = 2, "T"
 # Stages of preempts, by events once all of their phases are green, with the lists of these phases.
 STAGE_BEGINS = {106: "Track", 107: "Dwell", 111: "Exit"}
 STAGE_LISTS = {"Track": "preemptTrackPhase", "Dwell": "preemptDwellPhase", "Exit": "preemptExitPhase"}
@@ -101,10 +102,24 @@ def timing_red_clearance(state: State) -> set[int]:
 
 
 def off_overlaps(bench: Any, state: State, heads: list[str]) -> set[int]:
-    """The overlaps that are neither green nor yellow, and that include no phase in service."""
-    served, included = showing(shown_intervals(state), "GYC"), state.plan["overlapIncludedPhases"]
-    cleared = {overlap for overlap in OVERLAPS if served.isdisjoint(bench.members(included[overlap]))}
-    return cleared - showing(heads, "GY")
+    """The overlaps that are not lit, and of whose phases none is in service: those that they include, and the turn of an
+    arrow."""
+    served = showing(shown_intervals(state), "GYC")
+    cleared = {overlap for overlap in OVERLAPS if served.isdisjoint(phases_of(bench, state.plan, overlap))}
+    return cleared - showing(heads, "GYP")
+
+
+def phases_of(bench: Any, plan: dict[str, list[int]], overlap: int) -> list[int]:
+    """The phases that an overlap includes, and the turn of an arrow."""
+    included: list[int] = bench.members(plan["overlapIncludedPhases"][overlap])
+    is_arrow = plan["overlapType"][overlap] == ARROW and included
+    return included + (bench.members(plan["overlapModifierPhases"][overlap]) if is_arrow else [])
+
+
+def trailing_greens(state: State) -> set[int]:
+    """The overlaps that are green after their phases: none in flash, nor of a reference that has no such overlaps."""
+    parts = getattr(state, "parts", ())
+    return {o for o, part in enumerate(parts) if state.trip is None and part.interval == TRAILING}
 
 
 def failed_detectors(state: State) -> set[int]:
@@ -479,7 +494,8 @@ def overlap_events(bench: Any, before: State, after: State) -> list[Told]:
     """The events of what overlaps show, and of those whose phases have all cleared."""
     heads, new_heads = overlap_heads(bench, before), overlap_heads(bench, after)
     off, are_off = off_overlaps(bench, before, heads), off_overlaps(bench, after, new_heads)
-    return shown_events(OVERLAP_BEGINS, OVERLAP_ENDS, heads, new_heads) + begun(65, off, are_off)
+    told = shown_events(OVERLAP_BEGINS, OVERLAP_ENDS, heads, new_heads) + begun(65, off, are_off)
+    return told + begun(62, trailing_greens(before), trailing_greens(after))
 
 
 def switched(on_code: int, off_code: int, before: set[int], after: set[int]) -> list[Told]:

@@ -11,7 +11,8 @@ import json
 from typing import Any, NamedTuple
 
 from tools.reference.make_sessions import Reference
-from tools.reference.reference_events import (DETECTORS, FLOATING, FREE, OVERLAPS, PREEMPTS, STAGE_LISTS, State, acting_maximum,
+from tools.reference.reference_events import (ARROW, DETECTORS, FLOATING, FREE, OVERLAPS, PREEMPTS, STAGE_LISTS, State,
+                                              acting_maximum,
                                               clearance, cycle_of, failed_detectors, force_off_instant,
                                               has_maximum_recall, is_coordinated, of_split, overlap_heads,
                                               pedestrian_calls, runs_pattern, shown_intervals, shown_parts, showing,
@@ -40,6 +41,7 @@ class Wait(NamedTuple):
     number: int | None = None
     left: int | None = None
     lack: str | None = None
+    overlap: int | None = None
 
 
 def left(time: int, timer: int | None) -> int:
@@ -59,11 +61,32 @@ def ends_yellow(state: State, phase: int) -> bool:
     return state.interval[phase] == "Y" and state.itime[phase] + 1 >= state.plan["phaseYellowChange"][phase]
 
 
-def is_over(state: State, phase: int) -> bool:
-    """Whether the clearance of a phase is done in the next tick."""
+def is_cleared(state: State, phase: int) -> bool:
+    """Whether the own clearance of a phase is done in the next tick."""
     red = state.plan["phaseRedClear"][phase]
     in_red = state.interval[phase] == "C" and state.itime[phase] + 1 >= red
     return in_red or ends_yellow(state, phase) and red == 0
+
+
+def holders(bench: Any, state: State, phase: int) -> list[int]:
+    """The overlaps that hold a phase in clearance in the next tick, if the preempt in service stays."""
+    held: dict[int, list[int]] = bench.held_next(state) if hasattr(bench, "held_next") else {}
+    return sorted(overlap for overlap, phases in held.items() if phase in phases)
+
+
+def is_over(bench: Any, state: State, phase: int) -> bool:
+    """Whether the clearance of a phase is done in the next tick, and no overlap holds it."""
+    return is_cleared(state, phase) and not holders(bench, state, phase)
+
+
+def trail_left(state: State, overlap: int) -> int:
+    """How long an overlap that trails holds its phases still, at most."""
+    part, plan = state.parts[overlap], state.plan
+    green = 0 if state.service else 10 * plan["overlapTrailGreen"][overlap]
+    yellow, red = plan["overlapTrailYellow"][overlap], plan["overlapTrailRed"][overlap]
+    lasts = {"T": max(left(green, part.timer), 1) + yellow + red, "Y": max(left(yellow, part.timer), 1) + red,
+             "C": max(left(red, part.timer), 1)}
+    return lasts.get(part.interval, 0)
 
 
 def has_reverted(state: State, phase: int) -> bool:
@@ -74,10 +97,18 @@ def has_reverted(state: State, phase: int) -> bool:
 
 
 def until_over(state: State, phase: int) -> int:
-    """How long a phase still clears."""
+    """How long a phase still clears, by its own times."""
     yellow, red = state.plan["phaseYellowChange"][phase], state.plan["phaseRedClear"][phase]
     timer = state.itime[phase]
     return {"Y": left(yellow, timer) + red, "C": left(red, timer)}.get(state.interval[phase], 0)
+
+
+def clearing_wait(bench: Any, state: State, kind: str, phase: int) -> "Wait":
+    """The wait for a phase that clears: for the overlap that holds it, where its own clearance is done."""
+    held = holders(bench, state, phase) if is_cleared(state, phase) else []
+    if held:
+        return Wait("trails", phase, trail_left(state, held[0]), None, held[0])
+    return Wait(kind, phase, until_over(state, phase))
 
 
 def stage_phases(bench: Any, state: State) -> set[int] | None:
@@ -175,21 +206,21 @@ def first(phases: list[int | None]) -> int | None:
     return next((phase for phase in phases if phase), None)
 
 
-def unless_over(state: State, phase: int | None) -> int | None:
+def unless_over(bench: Any, state: State, phase: int | None) -> int | None:
     """A phase in service, if there is one and it is not over in the next tick."""
-    return phase if phase and not is_over(state, phase) else None
+    return phase if phase and not is_over(bench, state, phase) else None
 
 
 def committed_wait(bench: Any, state: State, phase: int, ring: int) -> Wait:
     """What a phase waits for that its ring is committed to."""
     own, other = (bench.service_of(state, it) for it in (ring, 3 - ring))
     crossing = state.cross is not None
-    if unless_over(state, own):
-        return Wait("clears", own, until_over(state, own))
+    if unless_over(bench, state, own):
+        return clearing_wait(bench, state, "clears", own)
     if not has_reverted(state, phase):
         return Wait("redRevert", None, left(red_revert(state, phase), state.revert[phase]))
-    if unless_over(state, other) and (crossing or not bench.conc(state.plan, phase, other)):
-        return Wait("across", other, until_over(state, other))
+    if unless_over(bench, state, other) and (crossing or not bench.conc(state.plan, phase, other)):
+        return clearing_wait(bench, state, "across", other)
     beside = state.commit[3 - ring]
     if crossing and beside and not has_reverted(state, beside):
         return Wait("beside", beside, left(red_revert(state, beside), state.revert[beside]))
@@ -212,9 +243,9 @@ def free_wait(bench: Any, state: State, phase: int, ring: int) -> Wait:
     if state.commit[ring]:
         return Wait("next", state.commit[ring])
     if state.cross is not None:
-        return Wait("crossing", first([unless_over(state, own), unless_over(state, other)]))
+        return Wait("crossing", first([unless_over(bench, state, own), unless_over(bench, state, other)]))
     if own and state.interval[own] != "G":
-        return Wait("clears", own, until_over(state, own))
+        return clearing_wait(bench, state, "clears", own)
     if not has_reverted(state, phase):
         return Wait("redRevert", None, left(red_revert(state, phase), state.revert[phase]))
     if state.plan["phaseSide"][phase] != state.side:
@@ -338,7 +369,10 @@ def overlap_groups(bench: Any, state: State) -> dict[str, set[int]]:
     """The groups of overlaps: one that includes no phase is dark."""
     heads, included = overlap_heads(bench, state), state.plan["overlapIncludedPhases"]
     lit = {overlap for overlap in OVERLAPS if included[overlap] != 0}
-    return {name: lit & showing(heads, letter) for name, letter in (("Reds", "R"), ("Yellows", "Y"), ("Greens", "G"))}
+    names = [("Reds", "R"), ("Yellows", "Y"), ("Greens", "G")]
+    if any(kind == ARROW and state.plan["overlapIncludedPhases"][o] for o, kind in enumerate(state.plan["overlapType"])):
+        names.append(("FlashingYellows", "P"))
+    return {name: lit & showing(heads, letter) for name, letter in names}
 
 
 def status_of(reference: Reference, state: State) -> dict[str, Any]:

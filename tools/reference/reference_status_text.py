@@ -10,7 +10,7 @@ from typing import Any
 PHASES = ("Reds", "Yellows", "Greens", "DontWalks", "PedClears", "Walks", "VehCalls", "PedCalls", "PhaseOns", "PhaseNexts")
 GROUPS = {
     "phaseStatusGroup": PHASES,
-    "overlapStatusGroup": ("Reds", "Yellows", "Greens"),
+    "overlapStatusGroup": ("Reds", "Yellows", "Greens", "FlashingYellows"),
     "vehicleDetectorStatusGroup": ("Active", "Alarms"),
 }
 PARTS = ("minimumGreen", "extension", "maximum", "greenRest", "yellowChange", "redClearance", "redRest")
@@ -20,7 +20,7 @@ FREE_STATES = {2: "notFree", 3: "commandFree", 7: "badPlan"}
 FLASH_STATES = {2: "notFlash", 6: "mmu"}
 COORDINATION = ("coordPatternStatus", "localFreeStatus", "localCounter", "coordSyncStatus")
 # What a wait of each kind names beside its phase.
-WITH_PHASE = ("next", "clears", "across", "beside", "crossing", "barrier", "green", "conflict")
+WITH_PHASE = ("next", "clears", "across", "beside", "crossing", "barrier", "green", "conflict", "trails")
 
 
 def lower(name: str) -> str:
@@ -30,7 +30,7 @@ def lower(name: str) -> str:
 
 def group(status: dict[str, Any], name: str) -> dict[str, Any]:
     """A group of status objects."""
-    return {lower(member): status[name + member] for member in GROUPS[name]}
+    return {lower(member): status[name + member] for member in GROUPS[name] if name + member in status}
 
 
 def ring(told: dict[str, Any]) -> dict[str, Any]:
@@ -45,7 +45,7 @@ def wait(told: dict[str, Any]) -> dict[str, Any]:
         parts["preempt"] = told["number"]
     if told["kind"] in WITH_PHASE:
         parts["of"] = told["number"]
-    return parts | {name: told[name] for name in ("lack", "left") if told[name] is not None}
+    return parts | {name: told[name] for name in ("overlap", "lack", "left") if told[name] is not None}
 
 
 def nested(status: dict[str, Any]) -> dict[str, Any]:

@@ -19,6 +19,13 @@ const YELLOW: &[u8] = b"0000101 -Y-R------------ -D-------------- Y--- 2 ----";
 
 const FLASH: &[u8] = b"0000102 -F-F------------ ---------------- F--- 2 ----";
 
+/// An arrow that is red, flashes, and is yellow, beside a phase that stays green.
+const ARROW: [&[u8]; 3] = [
+    b"0000001 -G-------------- ---------------- R--- 0 ----",
+    b"0000021 -G-------------- ---------------- P--- 0 ----",
+    b"0000061 -G-------------- ---------------- Y--- 0 ----",
+];
+
 const DARK: &[u8] = b"0000005 ---------------- ---------------- ---- 0 ----";
 
 /// The diagram of no line, with a title that has to be escaped.
@@ -107,6 +114,35 @@ const TWO_LINES: &[u8] = b"<svg width=\"1160\" height=\"180\" y=\"64\">
 <rect class=\"f\" height=\"6\" x=\"102\" y=\"85\" width=\"29\"/>
 <rect class=\"o\" height=\"4\" x=\"101\" y=\"118\" width=\"4\"/>
 <rect class=\"o\" height=\"4\" x=\"101\" y=\"134\" width=\"4\"/>
+</svg>
+</svg>
+</svg>
+";
+
+/// How an arrow is drawn and what it is called, and a line in which one flashes for four seconds.
+const ARROW_LINE: &[u8] = b"<style>.q{fill:url(#q)}</style>
+<pattern id=\"q\" width=\"10\" height=\"12\" patternUnits=\"userSpaceOnUse\" patternTransform=\"scale(10e-2 1)\"><rect width=\"7\" height=\"12\" fill=\"#fd4\"/><rect width=\"2\" height=\"12\"/></pattern>
+<svg x=\"140\" y=\"48\" width=\"1000\" height=\"16\" preserveAspectRatio=\"none\" viewBox=\"0 0 100 16\"><rect class=\"q\" height=\"8\" y=\"4\" x=\"55%\" width=\"3%\"/></svg>
+<text x=\"725\" y=\"60\">flashing yellow arrow</text>
+<svg width=\"1160\" height=\"68\" y=\"64\">
+<text class=\"b\" x=\"4\" y=\"12\">0:00:00</text>
+<text class=\"l\" x=\"132\" y=\"12\">2</text>
+<text class=\"l\" x=\"132\" y=\"28\">overlap 1</text>
+<line class=\"a\" x1=\"140\" x2=\"140\" y2=\"36\"/><text class=\"k\" x=\"140\" y=\"48\">0:00:00</text>
+<line class=\"a\" x1=\"240\" x2=\"240\" y2=\"36\"/><text class=\"k\" x=\"240\" y=\"48\">1</text>
+<line class=\"a\" x1=\"340\" x2=\"340\" y2=\"36\"/><text class=\"k\" x=\"340\" y=\"48\">2</text>
+<line class=\"a\" x1=\"440\" x2=\"440\" y2=\"36\"/><text class=\"k\" x=\"440\" y=\"48\">3</text>
+<line class=\"a\" x1=\"540\" x2=\"540\" y2=\"36\"/><text class=\"k\" x=\"540\" y=\"48\">4</text>
+<line class=\"a\" x1=\"640\" x2=\"640\" y2=\"36\"/><text class=\"k\" x=\"640\" y=\"48\">5</text>
+<line class=\"a\" x1=\"740\" x2=\"740\" y2=\"36\"/><text class=\"k\" x=\"740\" y=\"48\">6</text>
+<line class=\"a\" x1=\"840\" x2=\"840\" y2=\"36\"/><text class=\"k\" x=\"840\" y=\"48\">7</text>
+<line class=\"a\" x1=\"940\" x2=\"940\" y2=\"36\"/><text class=\"k\" x=\"940\" y=\"48\">8</text>
+<line class=\"a\" x1=\"1040\" x2=\"1040\" y2=\"36\"/><text class=\"k\" x=\"1040\" y=\"48\">9</text>
+<svg x=\"140\" width=\"1000\" preserveAspectRatio=\"none\" height=\"32\" viewBox=\"1 0 100 32\">
+<rect class=\"g\" height=\"12\" x=\"1\" y=\"2\" width=\"100\"/>
+<rect class=\"r\" height=\"3\" x=\"1\" y=\"23\" width=\"20\"/>
+<rect class=\"q\" height=\"8\" x=\"21\" y=\"20\" width=\"40\"/>
+<rect class=\"y\" height=\"12\" x=\"61\" y=\"18\" width=\"40\"/>
 </svg>
 </svg>
 </svg>
@@ -301,6 +337,13 @@ fn lines_break_and_bars_are_their_ticks(rt: HostRuntime) -> Result<(), AllocErro
     let replay = replay(rt.alloc(), &[RED, GREEN, CLEARING, YELLOW, FLASH])?;
     let rows = [row(40, 2, 0, 0), row(60, 0, 1, 2), row(105, 0, 0, 0)];
     assert!(rt; draws(rt.alloc(), 10, &replay, 130, &rows, TWO_LINES));
+    Ok(())
+}
+
+#[test]
+fn an_arrow_that_flashes_is_in_the_key(rt: HostRuntime) -> Result<(), AllocError> {
+    let replay = replay(rt.alloc(), &ARROW)?;
+    assert!(rt; draws(rt.alloc(), 10, &replay, 100, &[], ARROW_LINE));
     Ok(())
 }
 

@@ -178,6 +178,42 @@ fn changes_have_their_events(rt: HostRuntime) {
     assert!(rt; tells_of_signals(rt.alloc()) && tells_of_flash_and_last(rt.alloc()));
 }
 
+/// An arrow that is red beside a green phase.
+const ARROW_RED: &[u8] = b"0000097 -G-------------- ---------------- R--- 0 ----";
+
+/// It flashes yellow.
+const ARROW_FLASHES: &[u8] = b"0000021 -G-------------- ---------------- P--- 0 ----";
+
+/// It is yellow.
+const ARROW_YELLOW: &[u8] = b"0000061 -G-------------- ---------------- Y--- 0 ----";
+
+/// All heads flash red.
+const ARROW_TRIPS: &[u8] = b"0000061 -F-------------- ---------------- F--- 0 ----";
+
+/// Whether an arrow has its own events where it begins to flash yellow and ends, and those of an overlap.
+fn tells_of_arrows(alloc: Global) -> bool {
+    tells(alloc, ARROW_RED, ARROW_FLASHES, &[(21, 32, 1)])
+        && tells(
+            alloc,
+            ARROW_FLASHES,
+            ARROW_YELLOW,
+            &[(61, 33, 1), (61, 63, 1)],
+        )
+        && tells(alloc, ARROW_YELLOW, ARROW_RED, &[(97, 64, 1)])
+        && tells(alloc, ARROW_YELLOW, ARROW_FLASHES, &[(21, 32, 1)])
+        && tells(
+            alloc,
+            ARROW_FLASHES,
+            ARROW_TRIPS,
+            &[(61, 7, 2), (61, 33, 1), (61, 64, 1), (61, 173, 6)],
+        )
+}
+
+#[test]
+fn arrows_have_their_events(rt: HostRuntime) {
+    assert!(rt; tells_of_arrows(rt.alloc()));
+}
+
 fn at(tick: u32, line: &[u8]) -> Shown {
     Shown {
         tick,

@@ -355,10 +355,43 @@ fn worksheet_words(rt: HostRuntime) {
     assert!(rt; ask_for_worksheet(rt.alloc(), &hyphen, "-a.json"));
 }
 
+/// Whether the words ask for the card of this plan, beside no other.
+fn ask_for_card(alloc: Global, words: &[&str], file: &str) -> bool {
+    match read_words(alloc, words) {
+        Ok(
+            Asked::Card {
+                plan,
+                against: None,
+            },
+        ) => plan == file,
+        _ => false,
+    }
+}
+
+/// Whether the words ask for the card of this plan beside this one.
+fn ask_for_cards(alloc: Global, words: &[&str], file: &str, card: &str) -> bool {
+    match read_words(alloc, words) {
+        Ok(
+            Asked::Card {
+                plan,
+                against: Some(other),
+            },
+        ) => plan == file && other == card,
+        _ => false,
+    }
+}
+
+#[test]
+fn card_words(rt: HostRuntime) {
+    assert!(rt; ask_for_card(rt.alloc(), &["tsb_field", "card", "a.json"], "a.json"));
+    let beside = ["tsb_field", "card", "a.json", "--against", "a.txt"];
+    assert!(rt; ask_for_cards(rt.alloc(), &beside, "a.json", "a.txt"));
+}
+
 const FROM: &str = "--from=2026-11-22T07:00:00";
 
 /// Words that ask for nothing.
-const BAD: [&[&str]; 39] = [
+const BAD: [&[&str]; 43] = [
     &["tsb_field"],
     &["tsb_field", "help"],
     &["tsb_field", "log"],
@@ -422,6 +455,10 @@ const BAD: [&[&str]; 39] = [
     &["tsb_field", "worksheet"],
     &["tsb_field", "worksheet", "a.json", "a.log"],
     &["tsb_field", "worksheet", "--week=2026-11-22", "a.json"],
+    &["tsb_field", "card"],
+    &["tsb_field", "card", "a.json", "b.json"],
+    &["tsb_field", "card", "--against=a", "--against=b", "a.json"],
+    &["tsb_field", "worksheet", "--against=a", "a.json"],
 ];
 
 /// Whether all these words are bad.

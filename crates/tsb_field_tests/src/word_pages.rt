@@ -39,6 +39,9 @@ fn commands_are_told() -> bool {
     ) && begins(
         field_page(&["tsb_field", "review", "--help"]),
         b"usage: tsb_field review ",
+    ) && begins(
+        field_page(&["tsb_field", "card", "--help"]),
+        b"usage: tsb_field card ",
     )
 }
 
@@ -71,6 +74,11 @@ fn slips_are_found() -> bool {
     is_word(live_near(&["tsb_live", "a.json", "--stict"]), "--strict")
         && is_word(field_near(&["tsb_field", "daigram"]), "diagram")
         && is_word(field_near(&["tsb_field", "log", "--zones=Z"]), "--zone")
+        && is_word(field_near(&["tsb_field", "crad"]), "card")
+        && is_word(
+            field_near(&["tsb_field", "card", "--agianst=a"]),
+            "--against",
+        )
         && is_word(
             field_near(&["tsb_field", "events", "--fron", "x"]),
             "--from",
@@ -103,7 +111,7 @@ fn is_wrong(words: &[&str], line: &[u8]) -> bool {
 fn words_are_named() -> bool {
     is_wrong(
         &["tsb_field", "frob"],
-        b"there is no command \"frob\": log, record, events, diagram, review, schedule or worksheet\n",
+        b"there is no command \"frob\": log, record, events, diagram, review, schedule, worksheet or card\n",
     ) && is_wrong(
         &["tsb_field", "review", "--zone=Z", "--zone"],
         b"--zone: the command has no such option; --help after it lists all\n",
@@ -127,6 +135,12 @@ fn lacks_are_named() -> bool {
     ) && is_wrong(
         &["tsb_field", "review", "a.json", "b.json"],
         b"review names one file, PLAN\n",
+    ) && is_wrong(
+        &["tsb_field", "card", "--against", "a.txt"],
+        b"card names one file, PLAN\n",
+    ) && is_wrong(
+        &["tsb_field", "card", "a.json", "--against"],
+        b"--against has no value (one that begins with a hyphen comes after =): a name or a text has to follow\n",
     ) && field_wrong(&["tsb_field"]).is_none()
         && field_wrong(&["tsb_field", "log", "--count", "--help"]).is_none()
 }

@@ -37,6 +37,8 @@ fn inputs_are_commands(two: Station) -> bool {
         && is(b"abort 2", Some(Command::Abort(two)))
         && is(b"pattern 4294967295", Some(Command::Pattern(4_294_967_295)))
         && is(b"fault none", Some(Command::Fault(None)))
+        && is(b"omit 5", Some(Command::Omit(5)))
+        && is(b"omit 65536", Some(Command::Omit(65_536)))
 }
 
 /// The command that sets the clock to this time of a day, which is counted from 1999-12-24.
@@ -111,6 +113,7 @@ fn switches_are_commands(six: Phase) -> bool {
             b"fault O16 R",
             Lamp::Overlap(Overlap::of(16), SignalColor::Red),
         )
+        && is_fault(b"fault O3 P", Lamp::Arrow(Overlap::of(3)))
         && is_fault(
             b"fault W6 C",
             Lamp::Pedestrian(six, PedestrianColor::Clearance),
@@ -127,7 +130,7 @@ fn lines_of_more_words_are_commands(rt: HostRuntime) {
 }
 
 /// Lines that are no commands.
-const OTHERS: [&[u8]; 13] = [
+const OTHERS: [&[u8]; 17] = [
     b"step",
     b"step 99999999999",
     b"step x",
@@ -138,6 +141,10 @@ const OTHERS: [&[u8]; 13] = [
     b"fault W1 G",
     b"fault P03 G",
     b"fault O17 R",
+    b"fault P1 P",
+    b"fault O17 P",
+    b"omit",
+    b"omit 1,3",
     b"when ped 17",
     b"# quit",
     b"",

@@ -441,7 +441,7 @@ fn selects_and_records(bench: &mut Bench) -> bool {
     bench.local() == Some(110)
         && bench.apply(Input::Pattern(1)) == Ok(())
         && bench.local() == Some(110)
-        && records(bench, [(3161, 2), (3162, 0), (3163, 0)])
+        && records(bench, [(3305, 2), (3306, 0), (3307, 0)])
 }
 
 /// Whether the selection and the ticks after it are taken back, and taken again: no tick writes anything for it.

@@ -2,8 +2,11 @@
 
 use std::process::Abort;
 use tsb_display_text::{LineMaker, line, line_bytes};
-use tsb_heads::Display;
-use tsb_objects::{Checked, Intervals, Pedestrians, PhaseSet, Plan, Preempt};
+use tsb_heads::{Commitments, Display};
+use tsb_objects::{
+    Checked, Intervals, NumberSet, Object, ObjectId, OverlapLights, Pedestrians, PhaseSet, Plan,
+    Preempt,
+};
 
 /// The built-in plan of eight phases.
 fn quad(rt: &impl Abort) -> Checked {
@@ -32,7 +35,17 @@ fn shown(
         walk: PhaseSet::from_list(walk),
         clearance: PhaseSet::from_list(clearance),
     };
-    Display::new(&intervals, &pedestrians, None, None, tripped, plan)
+    Display::new(
+        &intervals,
+        &pedestrians,
+        Commitments {
+            ring_1: None,
+            ring_2: None,
+        },
+        &OverlapLights::none(),
+        tripped,
+        plan,
+    )
 }
 
 /// Whether this is the line of a tick at which the heads show this.
@@ -142,4 +155,70 @@ fn makes_all(plan: &Checked) -> bool {
 #[test]
 fn lines_made_one_after_another_tell_their_heads(rt: HostRuntime) {
     assert!(rt; makes_all(&quad(&rt)));
+}
+
+/// The built-in plan of eight phases, in which overlaps 2 to 4 are arrows of phase 1, which phase 2 opposes.
+fn with_arrows() -> Option<Checked> {
+    let mut plan = Plan::quad();
+    for index in 2..5u32 {
+        for (object, value) in [
+            (Object::OverlapType, 2),
+            (Object::OverlapIncludedPhases, 2),
+            (Object::OverlapModifierPhases, 1),
+        ] {
+            plan.put(ObjectId { object, index }, value).ok()?;
+        }
+    }
+    Checked::new(plan).ok()
+}
+
+/// What the heads show in the green of phases 2 and 6, with overlap 2 flashing and overlap 3 yellow.
+fn arrows_shown(plan: &Checked, tripped: bool) -> Display {
+    Display::new(
+        &Intervals {
+            green: PhaseSet::from_list(34),
+            yellow: PhaseSet::empty(),
+            red_clear: PhaseSet::empty(),
+        },
+        &Pedestrians {
+            walk: PhaseSet::empty(),
+            clearance: PhaseSet::empty(),
+        },
+        Commitments {
+            ring_1: None,
+            ring_2: None,
+        },
+        &OverlapLights {
+            green: NumberSet::empty(),
+            flashing: NumberSet::from_list(2),
+            yellow: NumberSet::from_list(4),
+        },
+        tripped,
+        plan,
+    )
+}
+
+/// Whether lines show arrows, in flash too.
+fn tells_arrows(plan: &Checked) -> bool {
+    tells(
+        21,
+        &arrows_shown(plan, false),
+        None,
+        None,
+        "0000021 RGRRRGRR-------- -D-------------- GPYR 0 ----",
+    ) && tells(
+        22,
+        &arrows_shown(plan, true),
+        None,
+        None,
+        "0000022 FFFFFFFF-------- ---------------- FFFF 0 ----",
+    )
+}
+
+#[test]
+fn tells_arrows_that_flash(rt: HostRuntime) {
+    let Some(plan) = with_arrows() else {
+        panic!(rt; "the plan was refused");
+    };
+    assert!(rt; tells_arrows(&plan));
 }

@@ -8,6 +8,8 @@
 #[cfg(test)]
 mod ample_memory;
 #[cfg(test)]
+mod arrows;
+#[cfg(test)]
 mod bench;
 #[cfg(test)]
 mod bench_alone;
@@ -37,6 +39,8 @@ mod lines;
 mod logs;
 #[cfg(test)]
 mod objects;
+#[cfg(test)]
+mod overlap_events;
 #[cfg(test)]
 mod patterns;
 #[cfg(test)]

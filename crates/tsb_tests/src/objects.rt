@@ -24,7 +24,7 @@ fn id(object: Object, index: u32) -> ObjectId {
 }
 
 /// Objects, each with how many indices it has and its greatest value.
-const RANGES: [Value; 34] = [
+const RANGES: [Value; 42] = [
     (Object::PhaseEnabled, 16, 1),
     (Object::PhaseSide, 16, 4),
     (Object::PhaseConcurrency, 16, 65_535),
@@ -40,7 +40,7 @@ const RANGES: [Value; 34] = [
     (Object::PreemptMaximumPresence, 8, 65_535),
     (Object::UnitRedRevert, 1, 255),
     (Object::PhaseDynamicMaxStep, 16, 255),
-    (Object::OverlapType, 16, 1),
+    (Object::OverlapType, 16, 2),
     (Object::CoordForceMode, 1, 2),
     (Object::CoordMaximumMode, 1, 2),
     (Object::PatternPermissiveTime, 16, 255),
@@ -59,6 +59,14 @@ const RANGES: [Value; 34] = [
     (Object::DayPlanMinute, 256, 59),
     (Object::DayPlanActionNumber, 256, 32),
     (Object::TimebaseAscPattern, 32, 254),
+    (Object::OverlapArrowDelay, 16, 255),
+    (Object::OverlapArrowPedestrian, 16, 1),
+    (Object::OverlapTrailGreen, 16, 255),
+    (Object::OverlapTrailYellow, 16, 255),
+    (Object::OverlapTrailRed, 16, 255),
+    (Object::ActionArrowOmit, 32, 65_535),
+    (Object::ChannelControlSource, 16, 16),
+    (Object::ChannelControlType, 16, 4),
 ];
 
 /// Whether the object has so many indices and this greatest value, said in both ways.
@@ -82,7 +90,7 @@ fn have_ranges(wanted: &[Value]) -> bool {
 
 #[test]
 fn objects_have_their_ranges(rt: HostRuntime) {
-    assert!(rt; have_ranges(&RANGES) && Object::ALL.len() == 79);
+    assert!(rt; have_ranges(&RANGES) && Object::ALL.len() == 87);
     laws::cells_are_told_apart();
     laws::values_are_told_apart();
 }

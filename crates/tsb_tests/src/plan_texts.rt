@@ -122,7 +122,7 @@ fn all_padded_are_answered(alloc: Global, wanted: &[(&str, &str)]) -> bool {
 }
 
 /// Texts, each with what reading answers for it.
-const TEXTS: [(&str, &str); 21] = [
+const TEXTS: [(&str, &str); 27] = [
     (r#""#, "plan: not JSON"),
     (r#"{"version":1"#, "plan: not JSON"),
     (r#"[]"#, "plan: not a table"),
@@ -156,6 +156,27 @@ const TEXTS: [(&str, &str); 21] = [
     (
         r#"{"version":3,"coordReference":{"1":6}}"#,
         "plan: coordReference.1: out of range",
+    ),
+    (
+        r#"{"version":2,"overlapType":{"1":2}}"#,
+        "plan: overlapType.1: out of range",
+    ),
+    (r#"{"version":3,"overlapType":{"1":2}}"#, "plan: rule K1"),
+    (
+        r#"{"version":2,"overlapTrailGreen":{}}"#,
+        "plan: overlapTrailGreen: no such object",
+    ),
+    (
+        r#"{"version":3,"overlapTrailGreen":{"16":256}}"#,
+        "plan: overlapTrailGreen.16: out of range",
+    ),
+    (
+        r#"{"version":3,"channelControlType":{"17":1}}"#,
+        "plan: channelControlType.17: no such object",
+    ),
+    (
+        r#"{"version":3,"actionArrowOmit":{"32":65536}}"#,
+        "plan: actionArrowOmit.32: out of range",
     ),
     (r#"{"version":2,"notes":{}}"#, "plan: notes: no such object"),
     (r#"{"version":3,"notes":[]}"#, "plan: notes: not a table"),

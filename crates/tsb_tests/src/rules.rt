@@ -299,6 +299,80 @@ fn permissive_times_end_within_the_cycle(rt: HostRuntime) {
     consistent::permissive_times_end();
 }
 
+/// Overlap 2 as the arrow of phase 1, which phase 2 of the same ring opposes.
+const ARROW: [Value; 3] = [
+    (Object::OverlapType, 2, 2),
+    (Object::OverlapIncludedPhases, 2, 2),
+    (Object::OverlapModifierPhases, 2, 1),
+];
+
+/// Changes to it, each with what is judged: it includes no phase, has no modifier phase, two, one that it includes,
+/// one that may be green with an included phase, or one that is not enabled. An included phase may be of the other
+/// ring.
+const ARROWS: [(Result<(), Rule>, &[Value]); 8] = [
+    (Ok(()), &[]),
+    (Err(Rule::K28), &[(Object::OverlapIncludedPhases, 2, 0)]),
+    (Err(Rule::K28), &[(Object::OverlapModifierPhases, 2, 0)]),
+    (Err(Rule::K28), &[(Object::OverlapModifierPhases, 2, 5)]),
+    (Err(Rule::K28), &[(Object::OverlapIncludedPhases, 2, 3)]),
+    (Err(Rule::K28), &[(Object::OverlapIncludedPhases, 2, 0x22)]),
+    (
+        Err(Rule::K21),
+        &[(Object::OverlapModifierPhases, 2, 0x0100)],
+    ),
+    (Ok(()), &[(Object::OverlapIncludedPhases, 2, 0x88)]),
+];
+
+#[test]
+fn arrows_have_a_turn_of_their_own(rt: HostRuntime) {
+    let Some(plan) = changed(Plan::quad(), &ARROW) else {
+        panic!(rt; "the plan takes no arrow");
+    };
+    for (wanted, changes) in ARROWS {
+        assert!(rt; is_judged(plan, changes, wanted));
+    }
+}
+
+/// Changes to overlap 1, which goes with phases 1 and 2, each with what is judged.
+const TRAILS: [(Result<(), Rule>, &[Value]); 7] = [
+    (Err(Rule::K29), &[(Object::OverlapTrailGreen, 1, 1)]),
+    (Err(Rule::K29), &[(Object::OverlapTrailYellow, 1, 29)]),
+    (Ok(()), &[(Object::OverlapTrailYellow, 1, 30)]),
+    (Ok(()), &[(Object::OverlapTrailRed, 1, 255)]),
+    (
+        Ok(()),
+        &[
+            (Object::OverlapTrailGreen, 1, 255),
+            (Object::OverlapTrailYellow, 1, 30),
+        ],
+    ),
+    (
+        Err(Rule::K29),
+        &[
+            (Object::OverlapTrailGreen, 1, 1),
+            (Object::OverlapTrailYellow, 1, 30),
+            (Object::OverlapType, 1, 1),
+        ],
+    ),
+    // Where both are broken, the first is reported.
+    (
+        Err(Rule::K28),
+        &[
+            (Object::OverlapTrailGreen, 1, 1),
+            (Object::OverlapType, 1, 2),
+        ],
+    ),
+];
+
+#[test]
+fn overlaps_that_trail_are_normal_and_have_a_yellow(rt: HostRuntime) {
+    for (wanted, changes) in TRAILS {
+        assert!(rt; quad_is_judged(changes, wanted));
+    }
+    consistent::arrows_are_sound();
+    consistent::trails_are_sound();
+}
+
 #[test]
 fn quad_meets_the_rules(rt: HostRuntime) {
     assert!(rt; quad_is_judged(&[], Ok(())));

@@ -124,6 +124,14 @@ fn actions_select_patterns(rt: HostRuntime) {
     assert!(rt; plan.selected_by(3) == 0 && plan.selected_by(0) == 0);
 }
 
+#[test]
+fn actions_omit_arrows(rt: HostRuntime) {
+    let mut plan = weekly();
+    assert!(rt; with_values(&mut plan, &[(Object::ActionArrowOmit, 2, 5)]));
+    assert!(rt; plan.omitted_by(0) == 0 && plan.omitted_by(1) == 0);
+    assert!(rt; plan.omitted_by(2) == 5 && plan.omitted_by(32) == 0);
+}
+
 /// The first rule that the quad of phases breaks with these values besides those of the week without its cycles.
 fn broken(values: &[(Object, u32, u32)]) -> Result<(), Rule> {
     let mut plan = Plan::quad();

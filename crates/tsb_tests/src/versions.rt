@@ -13,11 +13,22 @@ fn has_range(object: Object, indices: u32, greatest: u32) -> bool {
     Version::One.has(object) && range(Version::One, object) == Some((indices, greatest))
 }
 
-/// Whether version 2 has the object, with the values of version 3 and at most its indices.
+/// The greatest value in version 2 of an object that it has: that of version 3, but of types of overlaps, as it has no
+/// arrows.
+fn greatest_in_2(object: Object) -> u32 {
+    if object == Object::OverlapType {
+        1
+    } else {
+        range_of(object).greatest
+    }
+}
+
+/// Whether version 2 has the object, with at most the indices of version 3.
 fn is_within(object: Object) -> bool {
-    let whole = range_of(object);
     match range(Version::Two, object) {
-        Some((indices, greatest)) => indices <= whole.indices && greatest == whole.greatest,
+        Some((indices, greatest)) => {
+            indices <= range_of(object).indices && greatest == greatest_in_2(object)
+        }
         None => false,
     }
 }
@@ -80,7 +91,7 @@ const NEW: [Object; 11] = [
 ];
 
 /// What version 3 alone has.
-const OF_3_ALONE: [Object; 11] = [
+const OF_3_ALONE: [Object; 19] = [
     Object::OverlapAcrossRings,
     Object::PreemptChoosesAnew,
     Object::CoordReference,
@@ -92,6 +103,14 @@ const OF_3_ALONE: [Object; 11] = [
     Object::DayPlanMinute,
     Object::DayPlanActionNumber,
     Object::TimebaseAscPattern,
+    Object::OverlapArrowDelay,
+    Object::OverlapArrowPedestrian,
+    Object::OverlapTrailGreen,
+    Object::OverlapTrailYellow,
+    Object::OverlapTrailRed,
+    Object::ActionArrowOmit,
+    Object::ChannelControlSource,
+    Object::ChannelControlType,
 ];
 
 /// Whether version 1 has the objects with these indices and greatest values.
@@ -192,11 +211,13 @@ fn names_are() -> bool {
         && is_named(Object::CoordReference, "coordReference")
         && is_named(Object::DayPlanHour, "dayPlanHour")
         && is_named(Object::TimebaseAscPattern, "timebaseAscPattern")
+        && is_named(Object::OverlapTrailGreen, "overlapTrailGreen")
+        && is_named(Object::ChannelControlType, "channelControlType")
 }
 
 /// Whether objects are found by their names, where the version has them.
 fn names_are_found() -> bool {
-    let (split, last) = (Object::SplitTime, Object::TimebaseAscPattern);
+    let (split, last) = (Object::SplitTime, Object::ChannelControlType);
     finds(Version::One, split.name(), Some(split))
         && finds(Version::Three, last.name(), Some(last))
         && finds(Version::Two, last.name(), None)
@@ -212,7 +233,7 @@ fn objects_have_names(rt: HostRuntime) {
 }
 
 /// What a plan's structure is made of.
-const STRUCTURAL: [Object; 8] = [
+const STRUCTURAL: [Object; 9] = [
     Object::PhaseRing,
     Object::PhaseSide,
     Object::PhaseConcurrency,
@@ -221,6 +242,7 @@ const STRUCTURAL: [Object; 8] = [
     Object::OverlapType,
     Object::OverlapModifierPhases,
     Object::OverlapAcrossRings,
+    Object::OverlapTrailGreen,
 ];
 
 /// Whether all these objects are structural.
@@ -236,5 +258,5 @@ fn are_structural(objects: &[Object]) -> bool {
 #[test]
 fn structure_is_told(rt: HostRuntime) {
     assert!(rt; are_structural(&STRUCTURAL));
-    assert!(rt; Object::ALL.iter().filter(|o| is_structural(**o)).count() == 8);
+    assert!(rt; Object::ALL.iter().filter(|o| is_structural(**o)).count() == 9);
 }

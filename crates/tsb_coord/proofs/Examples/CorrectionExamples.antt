@@ -15,7 +15,7 @@ use Rattle.tsb_objects.specs.tsb_plan.Parts.{correction_mode}
 use Rattle.tsb_objects.specs.tsb_plan.Plan.{Plan, with_values}
 use Rattle.tsb_objects.specs.tsb_plan.Quad.{quad}
 use Rattle.tsb_objects.specs.tsb_rules.PatternRules.{split_sum, side_sum, split_end, coordinated_count}
-use Rattle.tsb_objects.specs.tsb_rules.Rules.{first_broken, broken_by_rings, broken_by_phases, broken_by_parts, broken_by_extensions, broken_by_schedule}
+use Rattle.tsb_objects.specs.tsb_rules.Rules.{first_broken, broken_by_rings, broken_by_phases, broken_by_parts, broken_by_extensions, broken_by_schedule, broken_by_overlaps}
 use Rattle.tsb_objects.specs.Instants.{waiting_point}
 use Rattle.tsb_coord.specs.Coordinated.{local, force_off}
 use Rattle.tsb_coord.specs.Correction.{Correction, in_step, lost, gained, longest_wait, waited, way, is_slower_way, ahead_in, local_now, steps_twice, forces, comes_to_force_off, is_in_step, lets_walk_again, ahead_from, selected_correction}
@@ -45,7 +45,7 @@ unfoldable pub dwelling_on : Plan
 dwelling_on = with_mode 1 0
 
 they_are_consistent : map first_broken (dwelling ∷ by_short_way ∷ adding ∷ dwelling_on ∷ []) ≡ None ∷ None ∷ None ∷ None ∷ []
-unfolding dwelling by_short_way adding dwelling_on quad run_from split_sum side_sum split_end coordinated_count first_broken broken_by_rings broken_by_phases broken_by_parts broken_by_extensions broken_by_schedule
+unfolding dwelling by_short_way adding dwelling_on quad run_from split_sum side_sum split_end coordinated_count first_broken broken_by_rings broken_by_phases broken_by_parts broken_by_extensions broken_by_schedule broken_by_overlaps
 they_are_consistent = refl
 
 -- without a limit the short way and add only are at once

@@ -7,7 +7,7 @@ use Rattle.tsb_objects.specs.tsb_plan.declared.object.Object.TheVariants.{PhaseE
 use Rattle.tsb_objects.specs.tsb_plan.Plan.{Plan, empty, with_value, with_values}
 use Rattle.tsb_objects.specs.tsb_plan.Quad.{quad, with_rows}
 use Rattle.tsb_objects.specs.tsb_rules.PatternRules.{split_sum, side_sum, split_end, coordinated_count}
-use Rattle.tsb_objects.specs.tsb_rules.Rules.{first_broken, broken_by_rings, broken_by_phases, broken_by_parts, broken_by_extensions, broken_by_schedule}
+use Rattle.tsb_objects.specs.tsb_rules.Rules.{first_broken, broken_by_rings, broken_by_phases, broken_by_parts, broken_by_extensions, broken_by_schedule, broken_by_overlaps}
 use Rattle.tsb_coord.specs.Coordinated.{local, residue_of_difference, end_of, instant_from, force_off, asks_force_off, asks_hold, asks_omit, refusal, selects}
 use Rattle.tsb_coord.specs.Cells.{pattern_in, correction_in, pattern_cells}
 use Rattle.tsb_coord.specs.Correction.{Correction, in_step}
@@ -106,7 +106,7 @@ four = with_values (with_rows empty ((SequenceData, 2 ∷ 4 ∷ 10 ∷ 12 ∷ []
 
 -- its minimum greens, maximums and so on are 0, which the rules allow
 four_is_consistent : first_broken four ≡ None
-unfolding four run_from split_sum side_sum split_end coordinated_count first_broken broken_by_rings broken_by_phases broken_by_parts broken_by_extensions broken_by_schedule
+unfolding four run_from split_sum side_sum split_end coordinated_count first_broken broken_by_rings broken_by_phases broken_by_parts broken_by_extensions broken_by_schedule broken_by_overlaps
 four_is_consistent = refl
 
 four_ends : map (end_of four 1) (2 ∷ 4 ∷ 10 ∷ 12 ∷ 14 ∷ []) ≡ 100 ∷ 250 ∷ 450 ∷ 700 ∷ 700 ∷ []

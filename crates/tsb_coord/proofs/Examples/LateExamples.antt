@@ -6,7 +6,7 @@ use Rattle.tsb_objects.specs.tsb_plan.declared.object.Object.TheVariants.{CoordF
 use Rattle.tsb_objects.specs.tsb_plan.Plan.{Plan, with_value, with_values}
 use Rattle.tsb_objects.specs.tsb_plan.Quad.{quad}
 use Rattle.tsb_objects.specs.tsb_rules.PatternRules.{split_sum, side_sum, split_end, coordinated_count}
-use Rattle.tsb_objects.specs.tsb_rules.Rules.{first_broken, broken_by_rings, broken_by_phases, broken_by_parts, broken_by_extensions, broken_by_schedule}
+use Rattle.tsb_objects.specs.tsb_rules.Rules.{first_broken, broken_by_rings, broken_by_phases, broken_by_parts, broken_by_extensions, broken_by_schedule, broken_by_overlaps}
 use Rattle.tsb_coord.specs.Coordinated.{force_off, yields_to, late_end, asks_force_off}
 use Rattle.tsb_coord.proofs.Examples.Examples.{four, short}
 
@@ -15,7 +15,7 @@ unfoldable pub late : Plan
 late = with_value quad CoordForceMode 1 1
 
 late_is_consistent : first_broken late ≡ None
-unfolding late quad run_from split_sum side_sum split_end coordinated_count first_broken broken_by_rings broken_by_phases broken_by_parts broken_by_extensions broken_by_schedule
+unfolding late quad run_from split_sum side_sum split_end coordinated_count first_broken broken_by_rings broken_by_phases broken_by_parts broken_by_extensions broken_by_schedule broken_by_overlaps
 late_is_consistent = refl
 
 -- the phases of a plan that pattern 1 forces off at tick t
@@ -66,7 +66,7 @@ unfoldable pub apart : Plan
 apart = with_values quad ((CoordForceMode, 1, 1) ∷ (PhaseYellowChange, 6, 40) ∷ [])
 
 apart_is_consistent : first_broken apart ≡ None
-unfolding apart quad run_from split_sum side_sum split_end coordinated_count first_broken broken_by_rings broken_by_phases broken_by_parts broken_by_extensions broken_by_schedule
+unfolding apart quad run_from split_sum side_sum split_end coordinated_count first_broken broken_by_rings broken_by_phases broken_by_parts broken_by_extensions broken_by_schedule broken_by_overlaps
 apart_is_consistent = refl
 
 by_rings : map (forced apart) (749 ∷ 750 ∷ 759 ∷ 760 ∷ [])

@@ -8,7 +8,7 @@ use Rattle.tsb_objects.specs.tsb_plan.Parts.{cycle}
 use Rattle.tsb_objects.specs.tsb_plan.Plan.{Plan, with_value, with_values}
 use Rattle.tsb_objects.specs.tsb_plan.Quad.{quad}
 use Rattle.tsb_objects.specs.tsb_rules.PatternRules.{split_sum, side_sum, split_end, coordinated_count}
-use Rattle.tsb_objects.specs.tsb_rules.Rules.{first_broken, broken_by_rings, broken_by_phases, broken_by_parts, broken_by_extensions, broken_by_schedule}
+use Rattle.tsb_objects.specs.tsb_rules.Rules.{first_broken, broken_by_rings, broken_by_phases, broken_by_parts, broken_by_extensions, broken_by_schedule, broken_by_overlaps}
 use Rattle.tsb_coord.specs.Coordinated.{local, residue_of_difference, end_of, instant_from, first_coordinated, reference, force_off, is_at_force_off}
 use Rattle.tsb_coord.specs.Laws.{clear_of}
 use Rattle.tsb_coord.proofs.Examples.Examples.{instants}
@@ -23,7 +23,7 @@ led = with_values quad (
     (PatternLeadLag, 1, 1) ∷ (PatternLeadLag, 2, 1) ∷ [])
 
 led_is_consistent : first_broken led ≡ None
-unfolding led quad run_from split_sum side_sum split_end coordinated_count first_broken broken_by_rings broken_by_phases broken_by_parts broken_by_extensions broken_by_schedule
+unfolding led quad run_from split_sum side_sum split_end coordinated_count first_broken broken_by_rings broken_by_phases broken_by_parts broken_by_extensions broken_by_schedule broken_by_overlaps
 led_is_consistent = refl
 
 -- instants are counted from 6 of ring 1, and not from the first

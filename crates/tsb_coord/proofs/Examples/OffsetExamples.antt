@@ -7,7 +7,7 @@ use Rattle.tsb_objects.specs.tsb_plan.Parts.{cycle, offset, offset_reference}
 use Rattle.tsb_objects.specs.tsb_plan.Plan.{Plan, with_value}
 use Rattle.tsb_objects.specs.tsb_plan.Quad.{quad}
 use Rattle.tsb_objects.specs.tsb_rules.PatternRules.{split_sum, side_sum, split_end, coordinated_count}
-use Rattle.tsb_objects.specs.tsb_rules.Rules.{first_broken, broken_by_rings, broken_by_phases, broken_by_parts, broken_by_extensions, broken_by_schedule}
+use Rattle.tsb_objects.specs.tsb_rules.Rules.{first_broken, broken_by_rings, broken_by_phases, broken_by_parts, broken_by_extensions, broken_by_schedule, broken_by_overlaps}
 use Rattle.tsb_objects.specs.Instants.{counted_to, offset_in_effect}
 use Rattle.tsb_coord.specs.Coordinated.{local, residue_of_difference, end_of, reference, force_off}
 use Rattle.tsb_coord.specs.OffsetLaws.{with_offsets}
@@ -17,7 +17,7 @@ abbrev to_green : Plan
 to_green = with_value led CoordReference 1 1
 
 is_consistent : first_broken to_green ≡ None
-unfolding led quad run_from split_sum side_sum split_end coordinated_count first_broken broken_by_rings broken_by_phases broken_by_parts broken_by_extensions broken_by_schedule
+unfolding led quad run_from split_sum side_sum split_end coordinated_count first_broken broken_by_rings broken_by_phases broken_by_parts broken_by_extensions broken_by_schedule broken_by_overlaps
 is_consistent = refl
 
 to_its_green : counted_to (offset_reference to_green) to_green 2 ∷ reference to_green 2 ∷ [] ≡ Some 0 ∷ Some 6 ∷ []

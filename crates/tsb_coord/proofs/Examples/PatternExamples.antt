@@ -7,7 +7,7 @@ use Rattle.tsb_objects.specs.tsb_plan.Plan.{Plan, with_value, with_values}
 use Rattle.tsb_objects.specs.tsb_plan.Running.{is_on_minimum_recall, is_on_maximum_recall, is_on_pedestrian_recall, is_omitted_now}
 use Rattle.tsb_objects.specs.tsb_plan.Quad.{quad}
 use Rattle.tsb_objects.specs.tsb_rules.PatternRules.{split_sum, side_sum, split_end, coordinated_count}
-use Rattle.tsb_objects.specs.tsb_rules.Rules.{first_broken, broken_by_rings, broken_by_phases, broken_by_parts, broken_by_extensions, broken_by_schedule}
+use Rattle.tsb_objects.specs.tsb_rules.Rules.{first_broken, broken_by_rings, broken_by_phases, broken_by_parts, broken_by_extensions, broken_by_schedule, broken_by_overlaps}
 use Rattle.tsb_coord.specs.Coordinated.{force_off, serving_order}
 use Rattle.tsb_coord.proofs.Examples.Examples.{instants, quad_instants}
 
@@ -20,7 +20,7 @@ lagging = with_values quad (
     (SequenceData, 49, 6) ∷ (SequenceData, 50, 5) ∷ (SequenceData, 51, 7) ∷ (SequenceData, 52, 8) ∷ [])
 
 lagging_is_consistent : first_broken lagging ≡ None
-unfolding lagging quad run_from split_sum side_sum split_end coordinated_count first_broken broken_by_rings broken_by_phases broken_by_parts broken_by_extensions broken_by_schedule
+unfolding lagging quad run_from split_sum side_sum split_end coordinated_count first_broken broken_by_rings broken_by_phases broken_by_parts broken_by_extensions broken_by_schedule broken_by_overlaps
 lagging_is_consistent = refl
 
 orders_of_ring_1 : serving_order lagging (Some 1) 1 ∷ serving_order lagging None 1 ∷ []
@@ -50,7 +50,7 @@ second_table = with_values quad (
     (SplitCoordPhase, 20, 1) ∷ (SplitCoordPhase, 24, 1) ∷ [])
 
 second_table_is_consistent : first_broken second_table ≡ None
-unfolding second_table quad run_from split_sum side_sum split_end coordinated_count first_broken broken_by_rings broken_by_phases broken_by_parts broken_by_extensions broken_by_schedule
+unfolding second_table quad run_from split_sum side_sum split_end coordinated_count first_broken broken_by_rings broken_by_phases broken_by_parts broken_by_extensions broken_by_schedule broken_by_overlaps
 second_table_is_consistent = refl
 
 second_table_instants : instants second_table 2

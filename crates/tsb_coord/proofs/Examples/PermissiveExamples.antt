@@ -5,7 +5,7 @@ use Rattle.tsb_objects.specs.tsb_plan.declared.object.Object.TheVariants.{Patter
 use Rattle.tsb_objects.specs.tsb_plan.Plan.{Plan, with_value}
 use Rattle.tsb_objects.specs.tsb_plan.Quad.{quad}
 use Rattle.tsb_objects.specs.tsb_rules.PatternRules.{split_sum, side_sum, split_end, coordinated_count}
-use Rattle.tsb_objects.specs.tsb_rules.Rules.{first_broken, broken_by_rings, broken_by_phases, broken_by_parts, broken_by_extensions, broken_by_schedule}
+use Rattle.tsb_objects.specs.tsb_rules.Rules.{first_broken, broken_by_rings, broken_by_phases, broken_by_parts, broken_by_extensions, broken_by_schedule, broken_by_overlaps}
 use Rattle.tsb_coord.specs.Coordinated.{local, permissive_end, force_off, asks_force_off, ends_permissive_time}
 use Rattle.tsb_coord.specs.Laws.{clear_of}
 use Rattle.tsb_coord.proofs.Examples.LateExamples.{forced}
@@ -15,7 +15,7 @@ unfoldable pub permitted : Plan
 permitted = with_value quad PatternPermissiveTime 1 10
 
 permitted_is_consistent : first_broken permitted ≡ None
-unfolding permitted quad run_from split_sum side_sum split_end coordinated_count first_broken broken_by_rings broken_by_phases broken_by_parts broken_by_extensions broken_by_schedule
+unfolding permitted quad run_from split_sum side_sum split_end coordinated_count first_broken broken_by_rings broken_by_phases broken_by_parts broken_by_extensions broken_by_schedule broken_by_overlaps
 permitted_is_consistent = refl
 
 -- coordinated phases from 760 up to 860, which is 60 of the next cycle, and the others at their instants alone

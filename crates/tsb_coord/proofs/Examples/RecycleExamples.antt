@@ -6,7 +6,7 @@ use Rattle.tsb_objects.specs.tsb_plan.declared.object.Object.TheVariants.{PhaseP
 use Rattle.tsb_objects.specs.tsb_plan.Plan.{Plan, with_value, with_values}
 use Rattle.tsb_objects.specs.tsb_plan.Quad.{quad}
 use Rattle.tsb_objects.specs.tsb_rules.PatternRules.{split_sum, side_sum, split_end, coordinated_count}
-use Rattle.tsb_objects.specs.tsb_rules.Rules.{first_broken, broken_by_rings, broken_by_phases, broken_by_parts, broken_by_extensions, broken_by_schedule}
+use Rattle.tsb_objects.specs.tsb_rules.Rules.{first_broken, broken_by_rings, broken_by_phases, broken_by_parts, broken_by_extensions, broken_by_schedule, broken_by_overlaps}
 use Rattle.tsb_coord.specs.Coordinated.{force_off, walk_and_clearance, recycle_end, asks_recycle, ends_recycle}
 use Rattle.tsb_coord.proofs.Examples.LeadLagExamples.{led}
 
@@ -15,7 +15,7 @@ unfoldable pub recycling : Plan
 recycling = with_values quad ((PhasePedestrianRecycle, 2, 1) ∷ (PhasePedestrianRecycle, 4, 1) ∷ [])
 
 recycling_is_consistent : first_broken recycling ≡ None
-unfolding recycling quad run_from split_sum side_sum split_end coordinated_count first_broken broken_by_rings broken_by_phases broken_by_parts broken_by_extensions broken_by_schedule
+unfolding recycling quad run_from split_sum side_sum split_end coordinated_count first_broken broken_by_rings broken_by_phases broken_by_parts broken_by_extensions broken_by_schedule broken_by_overlaps
 recycling_is_consistent = refl
 
 a_walk_takes : walk_and_clearance recycling 2 ≡ 100
@@ -79,7 +79,7 @@ led_walks = with_values led (
     (PhasePedestrianRecycle, 2, 1) ∷ (PhasePedestrianRecycle, 6, 1) ∷ (PhaseWalk, 6, 5) ∷ (PhasePedestrianClear, 6, 7) ∷ [])
 
 led_walks_is_consistent : first_broken led_walks ≡ None
-unfolding led_walks led quad run_from split_sum side_sum split_end coordinated_count first_broken broken_by_rings broken_by_phases broken_by_parts broken_by_extensions broken_by_schedule
+unfolding led_walks led quad run_from split_sum side_sum split_end coordinated_count first_broken broken_by_rings broken_by_phases broken_by_parts broken_by_extensions broken_by_schedule broken_by_overlaps
 led_walks_is_consistent = refl
 
 each_by_its_own : map (walking led_walks (Some 1)) (510 ∷ 511 ∷ 610 ∷ 611 ∷ 640 ∷ 641 ∷ 760 ∷ 761 ∷ [])

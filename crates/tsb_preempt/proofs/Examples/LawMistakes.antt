@@ -9,7 +9,7 @@ use Rattle.tsb_objects.specs.tsb_plan.Plan.{Plan, is_concurrent}
 use Rattle.tsb_objects.specs.tsb_plan.Parts.{is_dwell_phase}
 use Rattle.tsb_objects.specs.tsb_plan.Quad.{quad}
 use Rattle.tsb_objects.specs.tsb_rules.PatternRules.{split_sum, side_sum, split_end, coordinated_count}
-use Rattle.tsb_objects.specs.tsb_rules.Rules.{first_broken, broken_by_rings, broken_by_phases, broken_by_parts, broken_by_extensions, broken_by_schedule}
+use Rattle.tsb_objects.specs.tsb_rules.Rules.{first_broken, broken_by_rings, broken_by_phases, broken_by_parts, broken_by_extensions, broken_by_schedule, broken_by_overlaps}
 use Rattle.tsb_preempt.specs.Service.{all_green, stage_phases}
 use Rattle.tsb_preempt.specs.Preempts.{Preempts, as_read, requesting, beginning, new_service, next, wanted_by, is_outside}
 use Rattle.tsb_preempt.proofs.Examples.Examples.{plan, both, without_row, at_91}
@@ -17,7 +17,7 @@ use Rattle.tsb_preempt.proofs.Examples.Examples.{plan, both, without_row, at_91}
 -- ## Targets are compatible: in Track the phases of Dwell are wanted too
 
 breaks_no_rule : first_broken plan ≡ None
-unfolding plan quad run_from split_sum side_sum split_end coordinated_count first_broken broken_by_rings broken_by_phases broken_by_parts broken_by_extensions broken_by_schedule
+unfolding plan quad run_from split_sum side_sum split_end coordinated_count first_broken broken_by_rings broken_by_phases broken_by_parts broken_by_extensions broken_by_schedule broken_by_overlaps
 breaks_no_rule = refl
 
 wants_2_and_6 : map (stage_phases plan 1 Track) (run_from 1 8)
