@@ -1,5 +1,6 @@
 """What differs between two plans: lines, what follows from them, and the command."""
 
+from itertools import islice
 from pathlib import Path
 from typing import NamedTuple
 
@@ -234,10 +235,30 @@ def test_concurrency_by_phases(examples: Path) -> None:
         b[name] = {}
     b["phaseConcurrency"] = {1: {5}, 5: {1}, 2: {6}, 6: {2}, 3: {7}, 7: {3}}
     pairs = [(1, 6), (2, 5), (3, 8), (4, 7), (4, 8)]
-    told = list(following(a, b))[: len(pairs)]
+    told = list(islice(following(a, b), len(pairs)))
     assert told == [f"phases {p} and {q} are no longer concurrent" for p, q in pairs]
-    told = list(following(b, a))[: len(pairs)]
+    told = list(islice(following(b, a), len(pairs)))
     assert told == [f"phases {p} and {q} are concurrent" for p, q in pairs]
+
+
+def test_jumpers_of_the_card(examples: Path) -> None:
+    """Overlap 4, channel 12 where a plan names none, includes phase 8 beside 4. Phase 3
+    goes with 8 and not with 4; what else does was paired by phase 4."""
+    a = Plan.read(examples / "arrows.json")
+    b = a.wide()
+    b["overlapIncludedPhases"][4] = {4, 8}
+    assert list(following(a, b)) == ["card of the monitor: add 3-12"]
+    assert list(following(b, a)) == ["card of the monitor: remove 3-12"]
+
+
+def test_jumpers_are_in_their_order(examples: Path) -> None:
+    """With phase 2 overlap 4 goes beside 5 and 6 too: their heads, the arrows of 1 and 5
+    (channels 9 and 10) and the crosswalks of 2 and 6 (13 and 15)."""
+    a = Plan.read(examples / "arrows.json")
+    b = a.wide()
+    b["overlapIncludedPhases"][4] = {2, 4}
+    pairs = "2-12, 5-12, 6-12, 9-12, 10-12, 12-13, 12-15"
+    assert list(following(a, b)) == [f"card of the monitor: add {pairs}"]
 
 
 def test_statuses(

@@ -27,11 +27,13 @@ def test_objects_are_those_of_the_source(
     monkeypatch.chdir(top)
     monkeypatch.syspath_prepend(str(top))
     source = importlib.import_module("tools.pages.manual_table").objects()
-    assert set(source) == set(OBJECTS) and len(OBJECTS) == 79
+    assert set(source) == set(OBJECTS) and len(OBJECTS) == 87
     for name, (_, _, values, unit, structural) in source.items():
         found = OBJECTS[name]
         assert found.unit == unit and found.structural == (structural == "S")
         assert values.startswith(f"0 to {found.greatest}")
+        before = found.most(2)
+        assert (f"({before} before version 3)" in values) == (before != found.greatest)
 
 
 def test_each_refusal_has_its_cure(top: Path) -> None:
@@ -50,7 +52,7 @@ def test_each_refusal_has_its_cure(top: Path) -> None:
 def test_each_rule_has_its_cure(top: Path) -> None:
     """The rules of the manual's chapter 4."""
     text = (top / "docs/use/MANUAL.md").read_text()
-    assert list(RULES) == [f"K{it}" for it in range(1, 28)]
+    assert list(RULES) == [f"K{it}" for it in range(1, 30)]
     for name in RULES:
         fault = PlanFault(f"plan: rule {name}")
         assert fault.rule is not None
@@ -99,6 +101,20 @@ def test_ranges_are_told() -> None:
         said = re.escape(f"0 to {it.greatest} ({it.unit})")
         with pytest.raises(OutOfRange, match=said):
             plan[name][it.count] = it.greatest + 1
+
+
+def test_a_value_that_version_3_alone_has() -> None:
+    """An overlap of type 2 is an arrow, which only plan texts of version 3 have."""
+    what = OBJECTS["overlapType"]
+    assert [what.most(it) for it in (1, 2, 3)] == [0, 1, 2]
+    assert [what.since_value(it) for it in (0, 1, 2)] == [2, 2, 3]
+    with pytest.raises(OutOfRange, match=re.escape("0 to 1 (0 normal")):
+        Plan(2)["overlapType"][1] = 2
+    plan = Plan(3)
+    plan["overlapType"][1] = 2
+    assert plan.wide().version == 3 and plan.wide()["overlapType"][1] == 2
+    plan["overlapType"][1] = 1
+    assert plan.wide().version == 2
 
 
 def test_the_last_tick() -> None:

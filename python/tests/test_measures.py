@@ -181,6 +181,18 @@ def test_records_of_each_form(top: Path) -> None:
     assert len(both) - len(outputs) == len(recalls) - len(usual) > 100
 
 
+def test_arrows() -> None:
+    """Two flashes of overlap 1, one of overlap 2 that goes on, and an end of overlap 3
+    whose begin is before the first event. A protected green (61) is none."""
+    events = table(
+        (5, 33, 3), (21, 32, 1), (61, 33, 1), (61, 63, 1),
+        (100, 61, 1), (150, 63, 1), (200, 32, 1), (200, 32, 2), (205, 33, 1),
+    )  # fmt: skip
+    assert rows(measures.arrows(events)) == [
+        (1, 21, 61, 4.0), (1, 200, 205, 0.5), (2, 200, None, None),
+    ]  # fmt: skip
+
+
 def test_no_events() -> None:
     """A run without events has empty tables."""
     for name, measure in measures.MEASURES.items():

@@ -23,7 +23,8 @@ TIME = ".1.3.6.1.4.1.1206.4.2.6.3"
 PROFILE = {
     "phaseSide", "phaseVariableInitial", "phasePedestrianRecycle", "unitMax2",
     "overlapAcrossRings", "coordCorrectionLimit", "patternPermissiveTime",
-    "patternLeadLag", "preemptChoosesAnew", "coordReference",
+    "patternLeadLag", "preemptChoosesAnew", "coordReference", "overlapArrowDelay",
+    "overlapArrowPedestrian", "actionArrowOmit",
 }  # fmt: skip
 #: Objects of which any value leaves the structure of a plan as it is.
 FREE = sorted(

@@ -96,6 +96,7 @@ echo "step 36000" | tsb_field record --from "2026-11-22 07:00:00" --device 1001 
 MORNING = f"""
 cp examples/quad.json plan.json
 cp examples/hour_of_traffic.log day.log
+tsb_field card plan.json > cabinet.txt
 {EXPORT}
 """
 #: A server, and how it is run: until it is stopped, as by Ctrl-C. (One that is still
@@ -211,7 +212,7 @@ def test_the_questions_of_the_readme(room: Path) -> None:
     typed(room, DAY)
     rows = re.findall(r"^\| [^|]*\? \| (.*) \|$", (TOP / "README.md").read_text(), re.M)
     typed_ones = [it for row in rows for it in re.findall(r"`(tsb\S* .*?)`", row)]
-    assert len(rows) == 16 and len(typed_ones) == 15
+    assert len(rows) == 17 and len(typed_ones) == 16
     for command in typed_ones:
         served(room, command)
 
@@ -259,7 +260,8 @@ def test_help_names_what_the_page_does(name: str, room: Path) -> None:
 
 
 @pytest.mark.parametrize(
-    "words", ["tsb_live", *(f"tsb_field {it}" for it in [*HELPED, "review", "worksheet"])]
+    "words",
+    ["tsb_live", *(f"tsb_field {it}" for it in [*HELPED, "review", "worksheet", "card"])],
 )
 def test_examples_of_help(words: str, room: Path) -> None:
     """Each page of help ends with an example that can be typed."""

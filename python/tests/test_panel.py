@@ -992,6 +992,50 @@ def test_a_log_acts_until_a_hand_takes_over(examples: Path, tmp_path: Path) -> N
         assert asker.go(21)["active"] == [4]
 
 
+def test_arrows_flash(browser: Browser, examples: Path, tmp_path: Path) -> None:
+    """Phase 2 is green from tick 1, so the arrow of phase 1, overlap 1, flashes from tick 21
+    on: in the lane of phase 1, in place of that phase's own head. Phase 7 has no arrow, and
+    overlap 4 is none. With `omit` it has the 4.0 s of yellow of phase 2, then red."""
+    for server in started(
+        tmp_path / "runs", examples / "arrows.json", examples / "arrows.log"
+    ):
+        page = Page(browser, server.address)
+        page.go(20)
+        assert page.lit("O1") == "R" and page.text("flashing") == "none flashes"
+        page.go(21)
+        assert page.lit("O1") == page.lit("O2") == "P" and page.lit("O3") == "R"
+        assert page.text("flashing") == "overlaps 1, 2 flash"
+        for head, count in (("O1", 4), ("O4", 3), ("P7", 3)):
+            lenses = page.find(f"head-{head}").find_elements(By.CSS_SELECTOR, ".lens")
+            assert len(lenses) == count
+        assert not browser.find_elements(By.ID, "head-P1")
+        lit = browser.find_element(By.CSS_SELECTOR, "#head-O1 .lens.lit.P path")
+        assert lit.value_of_css_property("animation-name") == "flash"
+        page.fill("omitted", "1")
+        page.click("omit")
+        assert page.text("given").endswith("tick 21 omit 1")
+        page.go(61)
+        assert page.lit("O1") == "Y" and page.lit("O2") == "P"
+        page.click("tick-on")
+        assert page.lit("O1") == "R"
+        page.fill("omitted", "17")
+        page.click("omit")
+        assert page.text("message-text") == "17 is no overlap"
+        page.choose("head", "O1")
+        page.choose("lamp-letter", "P")
+        page.click("light")
+        assert "O1 P is lit" in page.text("lamp") and not page.shows("trip")
+        page.choose("lamp-letter", "G")
+        page.click("light")
+        assert page.shows("trip") and page.lit("O1") == "F"
+        browser.close()
+        browser.switch_to.window(browser.window_handles[0])
+
+
+def test_a_plan_without_arrows_has_no_row_of_them(page: Page) -> None:
+    assert not page.shows("arrows") and page.lit("P1") == "R"
+
+
 def test_a_panel_is_ended_while_a_bench_is_busy(examples: Path, tmp_path: Path) -> None:
     """The answer says that the bench has ended, and the program ends well."""
     found: list[Any] = []

@@ -83,6 +83,8 @@ def run(source: Source) -> Iterator[Run]:
         {"do": "switch", "number": 1, "to": "on\nquit"},
         {"do": "lamp", "head": "P17", "lamp": "G"},
         {"do": "lamp", "head": "P4", "lamp": "GY"},
+        {"do": "omit", "number": 65536},
+        {"do": "omit", "number": "1"},
         {"do": "begin", "station": 5},
         {"do": "set", "station": 1, "name": "undo", "index": 1, "value": 1},
         {"do": "set", "station": 1, "name": "phaseWalk", "index": 1, "value": 1 << 32},
@@ -107,7 +109,9 @@ def test_requests_and_the_commands_that_they_are() -> None:
         {"do": "pattern", "number": 16},
         {"do": "switch", "number": 4, "to": "off"},
         {"do": "lamp", "head": "W16", "lamp": "C"},
+        {"do": "lamp", "head": "O16", "lamp": "P"},
         {"do": "nolamp"},
+        {"do": "omit", "number": 65535},
         {"do": "reset"},
         {"do": "begin", "station": 4},
         {"do": "set", "station": 1, "name": "phaseWalk", "index": 0, "value": 999},
@@ -119,7 +123,9 @@ def test_requests_and_the_commands_that_they_are() -> None:
         "pattern 16",
         "preempt 4 off",
         "fault W16 C",
+        "fault O16 P",
         "fault none",
+        "omit 65535",
         "reset",
         "begin 4",
         "set 1 phaseWalk 0 999",
@@ -224,6 +230,25 @@ def test_a_lane_has_one_head(examples: Path, tmp_path: Path) -> None:
     assert found.overlaps == {1: beside, 3: Lane("east", "right")}
     path.write_text('{"phases": {"8": {"leg": "east", "turn": "right"}}}')
     assert set(layout_of(plan, Layout.read(path)).overlaps.values()) == {beside}
+
+
+def test_an_arrow_is_in_the_lane_of_its_turn(examples: Path, tmp_path: Path) -> None:
+    """So are the arrows of phases 1, 5 and 3; overlap 4 is no arrow. A second arrow of a
+    turn has no place, and a layout file can give one another."""
+    plan = Plan.read(examples / "arrows.json")
+    found = layout_of(plan)
+    assert found.overlaps == {
+        1: Lane("east", "left"), 2: Lane("west", "left"), 3: Lane("south", "left"),
+        4: Lane("beside", "right"),
+    }  # fmt: skip
+    assert [plan.turn_of(it) for it in (1, 2, 3, 4, 5)] == [1, 5, 3, 0, 0]
+    for name in ("overlapType", "overlapIncludedPhases", "overlapModifierPhases"):
+        plan[name][4] = plan[name][1]
+    assert layout_of(plan).overlaps[4] == Lane("beside", "left")
+    path = tmp_path / "layout.json"
+    path.write_text('{"overlaps": {"1": {"leg": "north", "turn": "left"}}}')
+    moved = layout_of(plan, Layout.read(path)).overlaps
+    assert moved[1] == Lane("north", "left") and moved[4] == Lane("east", "left")
 
 
 def test_other_plans_have_places_too(examples: Path) -> None:
@@ -528,7 +553,7 @@ def test_every_state_has_its_words() -> None:
     """No name of the status line is shown as it is."""
     causes = (
         "flash due clears redRevert across beside omitted preempted next crossing"
-        " barrier green conflict turn"
+        " barrier green conflict turn trails"
     ).split()
     told = [Wait(4, it, of=2, preempt=1, left=13).words for it in causes]
     assert len(set(told)) == len(causes) and not set(told) & set(causes)
@@ -545,6 +570,8 @@ def test_every_state_has_its_words() -> None:
         (Wait(4, "barrier", 2), "phase 4 waits for the barrier, which phase 2 keeps"),
         (Wait(4, "redRevert", left=0),
          "phase 4 waits for its own red revert: 0.0 s left"),
+        (Wait(4, "trails", 2, left=55, overlap=3),
+         "phase 4 waits for overlap 3, which trails and holds phase 2: 5.5 s left"),
         (Wait(16, "across", 2, left=6005),
          "phase 16 waits for phase 2 of the other ring to clear: 600.5 s left"),
         (Wait(4, "green", 3, lack="initial", left=44),

@@ -456,6 +456,26 @@ def test_one_run_by_commands(examples: Path, tmp_path: Path) -> None:
     assert page.tables[": "][1][5] == "pattern 1 (cycle 90 s, offset 40 s)"
 
 
+def test_arrows_that_flash(examples: Path, tmp_path: Path) -> None:
+    """By the lines of examples/ARROWS.md: overlap 1 flashes from 21 to 550 and from
+    1072 on, overlap 2 from 21 to 550 and from 806 on, overlap 3 from 635 to 675. What
+    goes on counts in the share, up to the last tick, 1100."""
+    page = made(
+        [
+            "--plan-a", examples / "arrows.json", "--log", examples / "arrows.log",
+            "--no-clock", "--seconds", 110,
+        ],
+        tmp_path / "page.html",
+    )  # fmt: skip
+    assert page.sections == [*ALL[2:-2], "arrows", *ALL[-2:]]
+    times = ["1", "52.9", "52.9", "52.9", "52.9", "52.9"]
+    assert page.tables["arrows: Flashes, in seconds"][1:] == [
+        ["1", *times, "50.7 %"],
+        ["2", *times, "74.9 %"],
+        ["3", "1", "4.0", "4.0", "4.0", "4.0", "4.0", "3.6 %"],
+    ]
+
+
 def test_a_street_beside_the_bench(examples: Path, days: Path, tmp_path: Path) -> None:
     """The street's run is its export; the bench has its cars. Here the street is a
     bench too, so that nothing differs."""

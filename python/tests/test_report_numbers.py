@@ -255,6 +255,18 @@ def test_preempts() -> None:
     ]
 
 
+def test_arrows() -> None:
+    """In 100 s overlap 1 flashes for 4.0 s and 16.0 s, and overlap 2 for the last 5.0 s:
+    with no end, that is in no mean. The least value that half of 4 and 16 don't exceed is
+    4, and 85 per cent of them 16."""
+    found = numbers((21, 32, 1), (61, 33, 1), (201, 32, 1), (361, 33, 1), (951, 32, 2))
+    assert rows(found.arrows) == [
+        (1, 2, 10.0, 4.0, 4.0, 16.0, 16.0, 0.2),
+        (2, 0, None, None, None, None, None, 0.05),
+    ]
+    assert numbers((1, 32, 1), ticks=1).arrows["flashing"].to_list() == [1.0]
+
+
 def test_at_a_glance() -> None:
     """All phases together: three greens; calls of 3 and 5 s for phase 4, for which two
     actuations waited, and one that waits on; a walk after 2 s; one of four actuations

@@ -954,3 +954,97 @@ def test_the_other_commands(tmp_path: Path, capsys: pytest.CaptureFixture[str]) 
     assert Plan.read(tmp_path / "C.plan.json").fault() is None
     assert main(["propose", net, "D", "--out", str(tmp_path)]) == 1
     assert "no traffic light D; it has C" in capsys.readouterr().err
+
+# Flashing yellow arrows
+
+
+@pytest.fixture(scope="session")
+def turns(tmp_path_factory: pytest.TempPathFactory) -> Path:
+    """The intersection for cars whose left turns have arrows."""
+    folder = tmp_path_factory.mktemp("turns")
+    crossroads.build(folder, arrows=True)
+    crossroads.demand(folder / "routes.xml", "medium", 1, SECONDS)
+    return folder
+
+
+def test_states_of_arrows_by_hand(turns: Path) -> None:
+    """Links 2, 6, 9 and 13 turn left from the north, the east, the south and the west:
+    they are those of phases 3, 1, 7 and 5, and so of overlaps 2, 1, 4 and 3."""
+    plan = crossroads.with_arrows(crossroads.plan())
+    mapping = Mapping.read(turns / "mapping.json")
+    assert mapping.overlaps == {1: (6,), 2: (2,), 3: (13,), 4: (9,)}
+    assert sorted(mapping.phases) == [2, 4, 6, 8]
+    at = Intersection.of(turns / "net.xml", "C", mapping, plan)
+    shown = "0000001 {}-------- ---------------- {} 0 ----"
+    for heads, overlaps, wanted in (
+        ("RGRRRGRR", "PRPR", "rrrGGGgrrrGGGg"),
+        ("GRRRRGRR", "GRPR", "rrrGGGGrrrrrrg"),
+        ("RRRYRRRY", "RYRY", "yyyrrrryyyrrrr"),
+        ("FFFFFFFF", "FFFF", "ssssssssssssss"),
+    ):
+        assert at.state(Display.of(shown.format(heads, overlaps))) == wanted
+
+
+def test_a_green_arrow_that_meets_a_green_is_refused(turns: Path) -> None:
+    """The turn of phase 1 and the through traffic of phase 2 meet in the net: where a plan
+    lets both be green, an arrow of that turn can't be protected."""
+    plan = crossroads.with_arrows(crossroads.plan())
+    plan["overlapModifierPhases"][1] = {5}
+    mapping = turns / "mapping.json"
+    with pytest.raises(MappingFault, match="links 6 and 10 are green at once, and meet"):
+        Intersection.of(turns / "net.xml", "C", mapping, plan)
+
+
+def test_arrows_among_cars(turns: Path) -> None:
+    """A link of a left turn yields only while the through traffic across is green, and is
+    green only with its turn. Cars turn while it yields, and back and on is the same."""
+    plan = crossroads.with_arrows(crossroads.plan())
+    with loop_of(turns, plan) as loop:
+        loop.run(900)
+        loop.checkpoint()
+        loop.run(700)
+        states, rows = loop.states("C"), loop.rows("C")
+        loop.back(700)
+        loop.run(700)
+        assert (loop.states("C"), loop.rows("C")) == (states, rows)
+    across = {6: 10, 13: 3, 2: 7, 9: 0}
+    yielding = 0
+    for state in states:
+        for turn, through in across.items():
+            if state[turn] == "g":
+                assert state[through] == "G"
+                yielding += 1
+            assert state[turn] != "G" or state[through] == "r"
+    assert yielding > 500
+
+
+def test_left_turns_lose_less_with_arrows(cars: Path, turns: Path, tmp_path: Path) -> None:
+    """On the same traffic, with the same times: cars that turn left wait less."""
+    stood = []
+    for folder, plan in (
+        (cars, crossroads.plan()),
+        (turns, crossroads.with_arrows(crossroads.plan())),
+    ):
+        trips = tmp_path / f"{folder.name}.xml"
+        with loop_of(folder, plan, trips=trips) as loop:
+            loop.run(10 * SECONDS)
+        table = read_trips(trips)
+        of_lefts = table[
+            [
+                crossroads.LEFT[start[0]] == end[:1]
+                for start, end in zip(table["from"], table["to"], strict=True)
+            ]
+        ]
+        assert len(of_lefts) >= 5
+        stood.append(float(of_lefts["waiting"].mean()))
+    assert stood[1] < stood[0]
+
+
+def test_the_example_with_arrows(tmp_path: Path) -> None:
+    """Its plan is one that `tsb check` takes, with a mapping that fits it."""
+    with contextlib.redirect_stdout(io.StringIO()):
+        assert main(["example", str(tmp_path), "--arrows", "--seconds", "60"]) == 0
+    plan = Plan.read(tmp_path / "plan.json")
+    assert plan.version == 3 and plan.fault() is None
+    assert {it: plan.turn_of(it) for it in range(1, 5)} == {1: 1, 2: 3, 3: 5, 4: 7}
+    Intersection.of(tmp_path / "net.xml", "C", tmp_path / "mapping.json", plan)

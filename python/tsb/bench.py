@@ -25,7 +25,7 @@ from tsb.errors import (
 )
 from tsb.hold import Hold, whole
 from tsb.lines import OVERLAPS, Display, Event, Lines
-from tsb.manual import NEWEST
+from tsb.manual import NEWEST, OBJECTS
 from tsb.plan import Plan
 from tsb.progress import progress
 from tsb.rows import ALL_OFF, COUNTS, Log, On, digits, fields, of_fields
@@ -38,13 +38,17 @@ Watch = Literal[
     "stage", "trip",
 ]  # fmt: skip
 
+# The kinds of inputs that a schedule gives.
+SCHEDULED = "pattern", "omit"
 # Ticks that are taken at a time, where there are more.
 LONG = 100_000
 # The first words of commands that are inputs and no ticks.
 INPUTS = frozenset(
-    "pattern preempt fault reset clock begin set verify commit abort".split()
+    "pattern preempt omit fault reset clock begin set verify commit abort".split()
 )
 
+# The object that has such overlaps as `omit` names.
+OMITTED = "actionArrowOmit"
 # The code of an event by which another pattern is selected, and its parameter for free
 # operation, which a command calls pattern 0.
 SELECTED, FREE = 131, 254
@@ -301,8 +305,10 @@ class Bench:
         if kind == "tick":
             self._now -= 1
             self._forget()
-        elif kind == "pattern" and not self._is_given():
-            self._forget_scheduled()
+        elif kind in SCHEDULED and not self._is_given(kind):
+            # (that no arrow flashes has no event before the next tick)
+            if kind == "pattern":
+                self._forget_scheduled()
         else:
             del self._told[self._marks.pop().events :]
         return kind
@@ -313,10 +319,10 @@ class Bench:
         schedule."""
         return len(self._marks)
 
-    def _is_given(self) -> bool:
-        """Whether the newest pattern was given here, and not by the schedule."""
+    def _is_given(self, kind: str) -> bool:
+        """Whether the newest input of this kind was given here, and not by the schedule."""
         newest = self._marks[-1] if self._marks else None
-        return newest is not None and newest[::2] == (self._now, "pattern")
+        return newest is not None and newest[::2] == (self._now, kind)
 
     def _forget_scheduled(self) -> None:
         """Drops the events of a pattern that the schedule gave and that was taken back.
@@ -377,6 +383,11 @@ class Bench:
     def preempt(self, number: int, on: bool = True) -> None:
         """Turns the switch of a preempt on or off."""
         self._do(f"preempt {number} {'on' if on else 'off'}")
+
+    def omit(self, overlaps: Iterable[int] = ()) -> None:
+        """Names the arrows that do not flash from now on, and no others: all may flash
+        where none is named. What flashes ends with its yellow."""
+        self._do(f"omit {number_of(OBJECTS[OMITTED], overlaps, NEWEST)}")
 
     def fault(self, head: str | None, lamp: str = "") -> None:
         """Lights a lamp in place of a head's own, as `fault("P4", "G")`; with None it

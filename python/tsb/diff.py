@@ -74,9 +74,10 @@ def place_of(what: Object, index: int) -> str:
 def said_of(what: Object, number: int) -> str:
     """A value that is a time or a list, as a person says it; nothing of others."""
     if what.is_list:
-        phases = sorted(phases_of(number))
-        name = "phase" if len(phases) == 1 else "phases"
-        return f"{name} {', '.join(map(str, phases))}" if phases else "no phase"
+        members = sorted(phases_of(number))
+        name = what.member if len(members) == 1 else f"{what.member}s"
+        told = f"{name} {', '.join(map(str, members))}"
+        return told if members else f"no {what.member}"
     return f"{time_of(what, number)} {unit_of(what)}" if what.time else ""
 
 
@@ -110,9 +111,11 @@ def laid_over(plan: Plan, lines: Iterable[Change]) -> Plan:
 
 
 def following(a: Plan, b: Plan) -> Iterator[str]:
-    """What follows from the changes: concurrency by phases, and of each pattern
-    splits, force-off instants and yields, as the bench has them."""
+    """What follows from the changes: concurrency by phases, jumpers of the monitor's
+    card, and of each pattern splits, force-off instants and yields, as the bench has
+    them."""
     yield from _concurrency(a, b)
+    yield from _card(a, b)
     of_a, of_b = timings_of(a), timings_of(b)
     for pattern in sorted({*of_a, *of_b}):
         if pattern not in of_b or pattern not in of_a:
@@ -129,6 +132,15 @@ def _concurrency(a: Plan, b: Plan) -> Iterator[str]:
     for first, second in sorted(before ^ after):
         said = "are" if (first, second) in after else "are no longer"
         yield f"phases {first} and {second} {said} concurrent"
+
+
+def _card(a: Plan, b: Plan) -> Iterator[str]:
+    """The jumpers that the monitor's card needs in one plan alone."""
+    before, after = set(a.card()), set(b.card())
+    for what, pairs in (("add", after - before), ("remove", before - after)):
+        if pairs:
+            told = ", ".join(f"{one}-{other}" for one, other in sorted(pairs))
+            yield f"card of the monitor: {what} {told}"
 
 
 def _pairs(plan: Plan) -> frozenset[tuple[int, int]]:

@@ -40,8 +40,8 @@ BAD_WORDS = 2  # the status of a program that has bad words
 
 # Of each kind of head, the place of its first letter in a line, how many there are,
 # and its letters.
-_HEADS = {"P": (8, 16, "GYRF-"), "W": (25, 16, "WCD-"), "O": (42, 4, "GYRF-")}
-_WIDE = {"O": (54, 16, "GYRF-")}  # of wide lines
+_HEADS = {"P": (8, 16, "GYRF-"), "W": (25, 16, "WCD-"), "O": (42, 4, "GYRPF-")}
+_WIDE = {"O": (54, 16, "GYRPF-")}  # of wide lines
 _PREEMPT, _LOCAL = 47, 49
 PIECE, LONGEST = 1 << 20, 1 << 30  # bytes of an export: read at a time, and at most
 _KINDS = "VBI"  # the columns of vehicle detectors, buttons and preempt inputs

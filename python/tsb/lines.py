@@ -13,8 +13,9 @@ class Display(NamedTuple):
 
     `vehicles` has a letter for each of 16 phases (G, Y, R, F for flashing red, - for
     none), and so has `pedestrians` (W, C, D, -). `overlaps` has one for each of 4, or
-    of 16 where lines are wide. `preempt` is the preempt in service, or 0. `local` is
-    the local counter of the pattern in tenths of a second, None in free operation.
+    of 16 where lines are wide, and P for a flashing yellow arrow. `preempt` is the
+    preempt in service, or 0. `local` is the local counter of the pattern in tenths of a
+    second, None in free operation.
     """
 
     tick: int

@@ -20,6 +20,8 @@ TIMES = {
 }
 
 
+# The units of values that are lists: of what.
+LISTS = {"list of phases": "phase", "list of overlaps": "overlap"}
 # How many there are of some things in plan texts of versions 1 and 2.
 BEFORE = {"vehicle detector": 16, "pedestrian detector": 8, "overlap": 4, "preempt": 4}
 
@@ -29,9 +31,10 @@ class Object:
     """An object of a plan: what its index counts, and the range of its values.
 
     `since` is the first version of plan texts that has it. `count` is the greatest
-    index of version 3, and `greatest` the greatest value of versions 2 and 3; `count_1`
-    and `greatest_1` are those of version 1, None where it has no such object. `structural`
-    objects can be changed by a commit only while nothing is in service.
+    index of version 3, and `greatest` its greatest value; `greatest_2` is that of version
+    2, None where it is the same. `count_1` and `greatest_1` are those of version 1, None
+    where it has no such object. `structural` objects can be changed by a commit only while
+    nothing is in service.
     """
 
     name: str
@@ -44,6 +47,7 @@ class Object:
     unit: str
     structural: bool
     meaning: str
+    greatest_2: int | None = None
 
     def counts(self, version: int) -> int:
         """The greatest index in plan texts of a version; 0 where it has no object."""
@@ -56,8 +60,14 @@ class Object:
         """The first version of plan texts, from 2 on, that has the object at an index."""
         return max(self.since, 2 if index <= self.counts(2) else NEWEST)
 
+    def since_value(self, value: int) -> int:
+        """The first version of plan texts, from 2 on, in which the object has a value."""
+        return max(self.since, 2 if value <= self.most(2) else NEWEST)
+
     def most(self, version: int) -> int:
         """The greatest value in plan texts of a version."""
+        if version == 2 and self.greatest_2 is not None:
+            return self.greatest_2
         return (self.greatest_1 if version == 1 else self.greatest) or 0
 
     @property
@@ -66,9 +76,15 @@ class Object:
         return TIMES.get(self.unit.split(",")[0])
 
     @property
+    def member(self) -> str:
+        """What a list is of, `phase` or `overlap`; nothing where a value is no list."""
+        return LISTS.get(self.unit, "")
+
+    @property
     def is_list(self) -> bool:
-        """Whether a value is a list of phases: 1 for phase 1, 2 for 2, 4 for 3, .."""
-        return self.unit == "list of phases"
+        """Whether a value is a list of phases or overlaps: 1 for the first of them, 2
+        for the second, 4 for the third, .."""
+        return bool(self.member)
 
     def range(self, version: int = 2) -> str:
         """The range with its unit, as `0 to 255 (tenths of a second)`."""
@@ -88,7 +104,7 @@ class Refusal:
 
 @dataclass(frozen=True)
 class Rule:
-    """A rule K1 to K27: what must hold, the usual cause where it does not, the cure."""
+    """A rule K1 to K29: what must hold, the usual cause where it does not, the cure."""
 
     name: str
     holds: str

@@ -18,6 +18,8 @@ from tsb.spread import percentile, spread
 from tsb.told import (
     ALARM_GOES,
     ALARMS,
+    ARROW,
+    ARROW_ENDS,
     CALL,
     CALL_GOES,
     CAUSES,
@@ -49,6 +51,7 @@ __all__ = [
     "alarms",
     "arrivals",
     "arriving",
+    "arrows",
     "counted",
     "cycles",
     "greens",
@@ -294,6 +297,22 @@ def _wanted(plan: Plan, preempt: int) -> frozenset[int]:
     return track or plan["preemptDwellPhase"].phases(preempt)
 
 
+def arrows(events: pd.DataFrame) -> pd.DataFrame:
+    """Each time that a flashing yellow arrow flashed, in which its turn was permissive:
+    `overlap` (of a street the number that its controller gives the arrow), the ticks at
+    which it began and ended, and `flash_s`."""
+    rows: list[Row] = []
+    on: dict[int, Row] = {}
+    for tick, code, overlap in ordered(events, {ARROW, ARROW_ENDS}):
+        if code == ARROW:
+            on[overlap] = {"overlap": overlap, "begin": tick}
+            rows.append(on[overlap])
+        else:
+            on.pop(overlap, {})["end"] = tick
+    found: pd.DataFrame = table_of(rows, ["overlap", "begin", "end"], [])
+    return found.assign(flash_s=seconds(found["end"], found["begin"]))
+
+
 def alarms(events: pd.DataFrame) -> pd.DataFrame:
     """Each alarm of a detector: `detector`, the ticks at which it comes and goes,
     `alarm_s`, and the `code` that it came with, 84 to 88. What comes while an alarm
@@ -320,6 +339,7 @@ MEASURES: Mapping[str, Callable[[pd.DataFrame, Plan], pd.DataFrame]] = {
     "arrivals": lambda events, plan: arrivals(events, plan["vehicleDetectorCallPhase"]),
     "preempts": preempts,
     "alarms": lambda events, _: alarms(events),
+    "arrows": lambda events, _: arrows(events),
     "cycles": lambda events, _: cycles(events),
     "greens_a_cycle": lambda events, _: greens_a_cycle(events),
 }

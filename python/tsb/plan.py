@@ -12,16 +12,18 @@ from os import PathLike
 from pathlib import Path
 from typing import TYPE_CHECKING, Any, NamedTuple
 
+from tsb.card import Differences, Pair, differences_of, pairs_of, text_of
 from tsb.errors import (
     NOT_JSON,
     TOO_LARGE,
+    Error,
     NoSuchObject,
     OutOfRange,
     PlanFault,
     ProgramDied,
     shown,
 )
-from tsb.files import up_to
+from tsb.files import up_to, word
 from tsb.manual import NEWEST, NOTES, OBJECTS
 from tsb.programs import run
 from tsb.values import (
@@ -39,7 +41,10 @@ if TYPE_CHECKING:
     from tsb.diff import Change
 
 OK = "plan ok"
+DIFFERS = 5  # the status of `tsb_field card` where a card differs
 LONGEST = 1 << 20  # bytes of a plan's text
+TRAILS = "overlapTrailGreen"  # what an overlap has that trails
+ARROW = 2  # the type of an overlap that is a flashing yellow arrow
 DAY_PLANS = "timeBaseScheduleDayPlan"  # what an entry of a schedule has that is used
 
 
@@ -237,6 +242,20 @@ class Plan:
         """The phases that are enabled."""
         return frozenset(self["phaseEnabled"])
 
+    def turn_of(self, overlap: int) -> int:
+        """The protected turn of an overlap that is a flashing yellow arrow; 0 where it
+        is none."""
+        is_arrow = self["overlapType"][overlap] == ARROW
+        turns = self["overlapModifierPhases"].phases(overlap) & self.phases
+        return min(turns, default=0) if is_arrow else 0
+
+    @property
+    def has_trails(self) -> bool:
+        """Whether an overlap trails: of such plans the longest entry of a worksheet is
+        not proved."""
+        found = next((of for name, of in self.items() if name == TRAILS), None)
+        return found is not None and any(it in self["overlapIncludedPhases"] for it in found)
+
     @property
     def has_schedule(self) -> bool:
         """Whether it has an entry of a schedule, which acts by a clock alone."""
@@ -261,8 +280,8 @@ class Plan:
     def wide(self, version: int = 2) -> "Plan":
         """The same plan in this version, 2 or 3, or in the first later one that has all that it has."""
         newer = (
-            OBJECTS[name].since_index(max(values))
-            for name, values in self.items()
+            max(what.since_index(max(values)), what.since_value(max(values.values())))
+            for what, values in ((OBJECTS[name], of) for name, of in self.items())
             if self.version == NEWEST
         )
         plan = Plan(NEWEST if self.notes else max((version, *newer)))
@@ -311,10 +330,38 @@ class Plan:
         serve. `PlanFault` is a plan that is refused."""
         return worksheet_of(self._asked_if_checked("worksheet"))
 
-    def _asked_if_checked(self, *words: str) -> list[str]:
+    def card(self) -> tuple[Pair, ...]:
+        """The pairs of channels of a conflict monitor that have to be permissive for
+        this plan, as `tsb_field card` prints them. `PlanFault` is a plan that is
+        refused."""
+        return pairs_of(self._asked_if_checked("card"))
+
+    def against_card(self, card: Iterable[Pair] | str | PathLike[str]) -> Differences:
+        """What a card has otherwise, its pairs or the path of its text: jumpers too many,
+        and those that are missing. `Error` names a line of it that is no pair."""
+        if isinstance(card, str | PathLike):
+            return self._against(word(card))
+        with tempfile.NamedTemporaryFile("w", suffix=".txt") as file:
+            file.write(text_of(card))
+            file.flush()
+            return self._against(file.name)
+
+    def _against(self, path: str) -> Differences:
+        """What the card of a file has otherwise."""
+        words = "card", f"--against={path}"
+        try:
+            return differences_of(self._asked_if_checked(*words, statuses=(0, DIFFERS)))
+        except ProgramDied as died:
+            if died.stderr.startswith("card line "):
+                raise Error(died.stderr.strip()) from None
+            raise
+
+    def _asked_if_checked(
+        self, *words: str, statuses: tuple[int, ...] = (0,)
+    ) -> list[str]:
         """The lines that `tsb_field` prints of a plan that `tsb check` takes."""
         try:
-            return self._asked(*words)
+            return self._asked(*words, statuses=statuses)
         except ProgramDied as died:
             if died.stderr.startswith("plan: "):
                 raise PlanFault(died.stderr.strip()) from None

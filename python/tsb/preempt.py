@@ -177,7 +177,8 @@ def _part(display: Display, phase: int, begun: bool) -> str:
 def rows(
     plan: Plan, number: int, found: Tries, within: int, entry: Entry
 ) -> Iterator[str]:
-    """The lines that are printed, with the entry that is proved."""
+    """The lines that are printed, with the longest entry, which is proved of a plan in
+    which no overlap trails."""
     stage, phases = first_stage(plan, number)
     named = " and ".join(map(str, sorted(phases)))
     kind = "phase" if len(phases) == 1 else "phases"
@@ -187,7 +188,8 @@ def rows(
         if name in found.longest:
             at, conflict = found.longest[name]
             yield _row(name, conflict.total, f"from tick {at}, {conflict}")
-    yield _row("proved bound", entry.delay + entry.longest, _parts(entry))
+    bound = "bound, not proved" if plan.has_trails else "proved bound"
+    yield _row(bound, entry.delay + entry.longest, _parts(entry))
     if found.worst is not None:
         yield _row("worst found", found.worst[0], f"from tick {found.worst[1]}")
     yield from notes(number, found, within)
@@ -212,7 +214,7 @@ def notes(number: int, found: Tries, within: int) -> Iterator[str]:
 
 
 def _parts(entry: Entry) -> str:
-    """The parts of a proved bound."""
+    """The parts of a bound."""
     return f"delay {_seconds(entry.delay)}, longest entry {_seconds(entry.longest)}"
 
 

@@ -26,7 +26,7 @@ class _Told:
         """Reads the part from an object of JSON."""
         values = {_snake(name): value for name, value in told.items()}
         names = [it.name for it in fields(cls)]
-        return cls(**{it: _plain(values[it]) for it in names})
+        return cls(**{it: _plain(values[it]) for it in names if it in values})
 
 
 def _snake(name: str) -> str:
@@ -56,11 +56,13 @@ class PhaseStatusGroup(_Told):
 
 @dataclass(frozen=True)
 class OverlapStatusGroup(_Told):
-    """overlapStatusGroup: sets of overlaps."""
+    """overlapStatusGroup: sets of overlaps. A plan that has an arrow has those that flash
+    yellow too."""
 
     reds: Numbers
     yellows: Numbers
     greens: Numbers
+    flashing_yellows: Numbers = frozenset()
 
 
 @dataclass(frozen=True)
@@ -105,8 +107,8 @@ class Wait:
     """What a phase waits for that is called or in service and not green.
 
     `cause` is `for` of the line, as `barrier`; `of` is the phase that it waits for,
-    `lack` what that green lacks, `left` what is left of a time. Its text is the
-    sentence of the front panel.
+    `lack` what that green lacks, `left` what is left of a time, `overlap` the one that
+    trails and holds that phase. Its text is the sentence of the front panel.
     """
 
     phase: int
@@ -115,6 +117,7 @@ class Wait:
     preempt: int | None = None
     lack: str | None = None
     left: int | None = None
+    overlap: int | None = None
 
     def __str__(self) -> str:
         return f"phase {self.phase} waits for {self.words}"
@@ -130,6 +133,9 @@ class Wait:
                 return "nothing more: it starts in the next tick"
             case "clears":
                 return self._with_left(f"{of} to clear")
+            case "trails":
+                what = f"overlap {self.overlap}, which trails and holds {of}"
+                return self._with_left(what)
             case "redRevert":
                 return self._with_left("its own red revert")
             case "across":

@@ -14,6 +14,8 @@ WALK, CALL, CALL_GOES, PEDESTRIAN_CALL = 21, 43, 44, 45
 DETECTOR_ON, PREEMPT_ON, PREEMPT_OFF = 82, 102, 104
 SERVICE, TRACK, DWELL, EXIT = 105, 106, 107, 111
 BARRIER, PATTERN, CYCLE, OFFSET = 31, 131, 132, 133
+# A flashing yellow arrow begins to flash, and ends.
+ARROW, ARROW_ENDS = 32, 33
 # How the local counter goes: the numbers for "not in step yet", with a street's 6 for the
 # begin of a pickup, and for "a cycle begins"; other numbers are other states.
 CYCLE_STATE, NOT_IN_STEP, LOCAL_ZERO = 150, (2, 3, 4, 6), 5

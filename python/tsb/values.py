@@ -108,7 +108,7 @@ def number_of(what: Object, value: Value, version: int = 2) -> int:
 
 def _said(what: Object, version: int) -> str:
     """What a value of an object is, as Python has it."""
-    form = "; a list of phases is {4, 7}" if what.is_list else ""
+    form = f"; a {what.unit} is {{4, 7}}" if what.is_list else ""
     form = "; seconds are tsb.seconds(4.0)" if what.time else form
     return what.range(version) + form
 
@@ -125,7 +125,7 @@ def _units(what: Object, value: timedelta) -> int:
 
 
 def _sum(what: Object, phases: Iterable[int], version: int) -> int:
-    """The number of a list of phases."""
+    """The number of a list of phases or overlaps."""
     if not what.is_list and what.name not in SUMS:
         raise OutOfRange(f"{what.name} is no list of phases: {what.range()}")
     try:
@@ -136,7 +136,7 @@ def _sum(what: Object, phases: Iterable[int], version: int) -> int:
     if what.name in SUMS:
         return _sum_of_days(what, members)
     if wrong := [it for it in members if not 1 <= it <= 16]:
-        raise OutOfRange(f"{what.name}: there is no phase {wrong[0]}")
+        raise OutOfRange(f"{what.name}: there is no {what.member} {wrong[0]}")
     return sum(1 << (it - 1) for it in members)
 
 

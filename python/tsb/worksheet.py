@@ -19,7 +19,7 @@ _SHARE = re.compile(
 class Entry:
     """A preempt, in tenths of a second: its delay, and how long after it enters
     service all phases of its first stage are green, at most. That is proved of every
-    run in which the plan stays and the controller does not trip."""
+    run in which no overlap trails, the plan stays and the controller does not trip."""
 
     delay: int
     longest: int

@@ -136,6 +136,11 @@ OPTIONS = Options(
 )
 #: The table of actions, below asc.
 ACTIONS: Oid = (5, 3, 1)
+#: Those of flashing yellow arrows are of version 3 of the standard (uncertain).
+OVERLAP_TYPES = (
+    "other", "normal", "minusGreenYellow", "pedestrianNormal", "fYAThreeSection",
+    "fYAFourSection",
+)  # fmt: skip
 SPLIT_MODES = (
     "other", "none", "minimumVehicleRecall", "maximumVehicleRecall", "pedestrianRecall",
     "maximumVehicleAndPedestrianRecall", "phaseOmitted",
@@ -434,19 +439,35 @@ TABLES = (
         ("sequenceNumber", "sequenceRingNumber"),
         "sequenceData",
     ),
+    Table((8,), _none({1: "maxChannels"}, None, SIZE)),
+    Table(
+        (8, 2, 1),
+        _numbers({2: "channelControlSource"})
+        | {
+            3: Column(
+                "channelControlType",
+                Choice(
+                    "channelControlType",
+                    {0: 1, 1: 1, 2: 2, 3: 3, 4: 4},
+                    ("other", "phaseVehicle", "phasePedestrian", "overlap"),
+                ),
+            )
+        }
+        | _none({4: "channelFlash", 5: "channelDim"}),
+        ("channelNumber",),
+        "channelControlSource",
+    ),
     Table((9,), _none({1: "maxOverlaps", 3: "maxOverlapStatusGroups"}, None, SIZE)),
     Table(
         (9, 2, 1),
         {
             2: Column(
                 "overlapType",
-                Choice(
-                    "overlapType", {0: 2, 1: 3}, ("other", "normal", "minusGreenYellow")
-                ),
+                Choice("overlapType", {0: 2, 1: 3, 2: 6}, OVERLAP_TYPES),
             )
         }
         | _lists({3: "overlapIncludedPhases", 4: "overlapModifierPhases"})
-        | _none(
+        | _numbers(
             {
                 5: "overlapTrailGreen",
                 6: "overlapTrailYellow",

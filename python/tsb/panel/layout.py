@@ -5,7 +5,8 @@ odd ones turn left. A street is the phases of one side of the barriers: 2 enters
 the west and 6 from the east, 4 from the north and 8 from the south. Phases 1, 3, 5, 7
 turn left beside 6, 8, 2 and 4. The crossing of a phase lies beside its through lanes,
 at their right. An overlap of 2 and 3, 4 and 5, 6 and 7 or 8 and 1 is a right turn: that
-of the through phase, which swaps legs with the left turn. Any other has no place.
+of the through phase, which swaps legs with the left turn. A flashing yellow arrow is the
+head of its turn, in the lane of that phase. Any other overlap has no place.
 
 A layout file names other places, and streets:
 
@@ -155,10 +156,13 @@ def layout_of(plan: Plan, given: Layout | None = None) -> Layout:
     crossings |= {it: leg for it, leg in given.crossings.items() if it in crossings}
     numbers = plan["overlapIncludedPhases"]
     overlaps = {it: lane for it, lane in given.overlaps.items() if it in numbers}
+    taken = [*overlaps.values()]
     for number in sorted(set(numbers) - set(overlaps)):
-        lane = _overlap(plan, number, lanes)
-        is_taken = lane in overlaps.values() or lane in lanes.values()
-        overlaps[number] = Lane(BESIDE, "right") if is_taken else lane
+        turn = plan.turn_of(number)
+        lane = lanes[turn] if turn else _overlap(plan, number, lanes)
+        is_taken = lane in taken or (lane in lanes.values() and not turn)
+        overlaps[number] = Lane(BESIDE, lane.turn) if is_taken else lane
+        taken.append(overlaps[number])
     return Layout(lanes, crossings, overlaps, given.streets)
 
 

@@ -12,11 +12,13 @@ from typing import Any, ClassVar, Literal
 
 from tsb.bench import Watch
 from tsb.errors import Error
+from tsb.lines import OVERLAPS
 from tsb.manual import LAST_TICK, OBJECTS
 from tsb.rows import PEDESTRIANS, PREEMPTS, VEHICLES
 
 NUMBER_MOST = (1 << 32) - 1  # the greatest number that a command can have
 STATIONS, PATTERNS, PHASES = 4, 16, 16
+LIST_MOST = (1 << OVERLAPS[1]) - 1  # the number of a list of all overlaps
 TICKS_MOST = 100_000  # ticks that a request takes
 PULSE_MOST = 36_000  # ticks of a pulse: an hour
 COLUMNS_MOST = 4_000  # columns of a picture
@@ -146,7 +148,17 @@ class Lamp(_Given):
 
     FORM = "fault {head} {lamp}"
     head: str = _word(HEAD, "P1 to P16, W1 to W16 or O1 to O16")
-    lamp: str = _one_of(tuple("GYRWCD"), "a letter of GYR, of a pedestrian head WCD")
+    lamp: str = _one_of(
+        tuple("GYRPWCD"), "a letter of GYR, of an overlap P, of a pedestrian head WCD"
+    )
+
+
+@dataclass(frozen=True)
+class Omit(_Given):
+    """Names the arrows that do not flash from now on, by the number of their list."""
+
+    FORM = "omit {number}"
+    number: int = _number(0, LIST_MOST)
 
 
 @dataclass(frozen=True)
@@ -218,6 +230,7 @@ class Abort(_Given):
 Given = (
     Pattern
     | Switch
+    | Omit
     | Lamp
     | NoLamp
     | Reset
@@ -343,8 +356,8 @@ Request = (
 GIVEN: Mapping[str, type[Given]] = {
     it.__name__.lower(): it
     for it in (
-        Pattern, Switch, Lamp, NoLamp, Reset, Clock, Begin, Set, Verify, Commit,
-        Abort,
+        Pattern, Switch, Omit, Lamp, NoLamp, Reset, Clock, Begin, Set, Verify,
+        Commit, Abort,
     )
 }  # fmt: skip
 REQUESTS: Mapping[str, type[Request]] = {

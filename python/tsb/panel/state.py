@@ -4,7 +4,7 @@ from datetime import datetime
 from typing import Any
 
 from tsb.lines import OVERLAPS, WIDTH
-from tsb.manual import OBJECTS, RULES
+from tsb.manual import NEWEST, OBJECTS, RULES
 from tsb.panel import words
 from tsb.panel.layout import Layout, layout_of
 from tsb.panel.run import Run, is_tripped
@@ -69,6 +69,7 @@ def _told(status: Status) -> dict[str, Any]:
             }
             for it in status.rings
         ],
+        "flashing": sorted(status.overlaps.flashing_yellows),
         "waits": [
             {"phase": it.phase, "says": it.words} for it in status.waits.values()
         ],
@@ -124,7 +125,7 @@ def objects_told() -> dict[str, Any]:
         name: {
             "index": it.index,
             "count": it.count,
-            "range": it.range(),
+            "range": it.range(NEWEST),
             "greatest": it.greatest,
             "unit": it.unit,
             "structural": it.structural,

@@ -42,9 +42,9 @@ def _places(phases: Sequence[int], run: int, runs: int) -> dict[int, float]:
     return {phase: place + shift for place, phase in enumerate(phases)}
 
 
-def _phase_axis(axis: Any, phases: Sequence[int]) -> None:
+def _phase_axis(axis: Any, phases: Sequence[int], name: str = "phase") -> None:
     axis.set_xticks(range(len(phases)), [str(it) for it in phases])
-    axis.set_xlabel("phase")
+    axis.set_xlabel(name)
     room = max(FEW - len(phases), 0) / 2
     axis.set_xlim(-0.6 - room, len(phases) - 0.4 + room)
     axis.tick_params(axis="x", length=0)
@@ -220,6 +220,7 @@ def _bars(
     values: Sequence["pd.Series[float]"],
     ylabel: str,
     line: float | None,
+    xlabel: str = "phase",
 ) -> str:
     phases = sorted({int(it) for of in values for it in of.index})
     with drawn(name, [2.0]) as drawing:
@@ -236,7 +237,7 @@ def _bars(
         if line is not None:
             axis.axhline(line, color=INK, linewidth=0.9, linestyle="dashed")
         axis.set_ylabel(ylabel)
-        _phase_axis(axis, phases)
+        _phase_axis(axis, phases, xlabel)
         legend(drawing.axes[0, 0], 2)
     return drawing.svg
 
@@ -251,6 +252,12 @@ def arrivals(both: Both) -> str:
     """What share of each phase's actuations came while it was green."""
     values = [100 * it.arrivals["green"] for it in both]
     return _bars("arrivals", both, values, "per cent on green", None)
+
+
+def arrows(both: Both) -> str:
+    """What share of the run each arrow flashes."""
+    values = [100 * it.arrows["flashing"] for it in both]
+    return _bars("arrows", both, values, "per cent of the run", None, "overlap")
 
 
 # --- coordination ---

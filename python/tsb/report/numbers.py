@@ -329,6 +329,16 @@ class Numbers:
         return found
 
     @cached_property
+    def arrows(self) -> pd.DataFrame:
+        """How long arrows flashed (`measures.spread` of `flash_s`, by overlap), and
+        `flashing`: for what share of the run, also where one flashes on at its end."""
+        each = measures.arrows(self.run.events)
+        end = each["end"].fillna(self.run.ticks + 1)
+        time = (end - each["begin"]).groupby(each["overlap"]).sum().astype("Float64")
+        found = measures.spread(each["flash_s"], each["overlap"])
+        return found.assign(flashing=time / max(self.run.ticks, 1))
+
+    @cached_property
     def alarms(self) -> pd.DataFrame:
         """Each alarm of a detector (`measures.alarms`)."""
         return measures.alarms(self.run.events)

@@ -10,7 +10,7 @@ from tsb.programs import marked
 from tsb.report.cells import NONE, Both, Cell, Form, Table, count, seconds, share
 from tsb.report.differences import Difference, differences
 from tsb.report.numbers import ENDS, Numbers
-from tsb.report.sections import SECTIONS
+from tsb.report.sections import sections_of
 
 FIRST = 15  # differences that are shown at once, of plans and of runs
 LOST = "seconds × actuations"
@@ -31,7 +31,7 @@ def page_of(
         glance=glance(both),
         changed=changed(*both) if has_plans else None,
         unlike=unlike(*both) if len(both) > 1 else None,
-        sections=[make(both) for make in SECTIONS],
+        sections=sections_of(both),
         facts=[_facts(it) for it in both],
         notes=notes,
     )

@@ -289,6 +289,29 @@ def _folded(numbers: Numbers) -> Table:
     return Table(caption, ["phase", "part", *(f"on {it}" for it in SHOWN)], rows)
 
 
+def arrows(both: Both) -> Section:
+    """Flashes of flashing yellow arrows."""
+
+    def made() -> Iterable[Chart]:
+        columns = {**SPREAD, "flashing": ("share of the run", share)}
+        table = table_of(
+            "Flashes, in seconds", both, lambda it: it.arrows, columns, "overlap"
+        )
+        yield _chart("For how long arrows flash", charts.arrows(both), table)
+
+    return _section(
+        "arrows", "Flashing yellow arrows",
+        "While an arrow flashes (from code 32 to 33) its turn is permissive. Actuations"
+        " of the turn's own phase count as on red in these seconds.",
+        has_arrows(both), "No arrow flashed.", made,
+    )  # fmt: skip
+
+
+def has_arrows(both: Both) -> bool:
+    """Whether some arrow flashed."""
+    return any(len(it.arrows) for it in both)
+
+
 def preempts(both: Both) -> Section:
     """Services of preempts."""
 
@@ -359,5 +382,10 @@ def _alarms(numbers: Numbers) -> Table:
 
 
 SECTIONS: Sequence[Callable[[Both], Section]] = (
-    terminations, splits, cycles, waits, walks, arrivals, preempts, alarms,
+    terminations, splits, cycles, waits, walks, arrivals, arrows, preempts, alarms,
 )  # fmt: skip
+
+
+def sections_of(both: Both) -> list[Section]:
+    """All sections; that of arrows where some arrow flashed."""
+    return [make(both) for make in SECTIONS if make is not arrows or has_arrows(both)]

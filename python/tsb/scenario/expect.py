@@ -15,7 +15,7 @@ from tsb.scenario.words import Words
 HEADS: Mapping[str, tuple[str, int]] = {
     "P": ("GYRF-", 16),
     "W": ("WCD-", 16),
-    "O": ("GYRF-", 16),
+    "O": ("GYRPF-", 16),
 }
 IS_HEAD = "P1 to P16, W1 to W16 and O1 to O16 are heads"
 PREEMPT = "preempt"  # the preempt in service, as a head that shows a number

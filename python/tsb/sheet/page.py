@@ -4,7 +4,7 @@ import hashlib
 import re
 from collections.abc import Iterator, Mapping, Sequence
 from dataclasses import dataclass
-from itertools import product
+from itertools import chain, product
 
 import jinja2
 from markupsafe import Markup
@@ -15,13 +15,15 @@ from tsb.plan import OK, Plan
 from tsb.programs import marked
 from tsb.sheet.drawing import drawing
 from tsb.sheet.schedule import schedule_of
-from tsb.sheet.tables import SCHEDULE, Table, index_of, tables, unit_in
+from tsb.sheet.tables import MONITOR, SCHEDULE, Table, index_of, tables, unit_in
 from tsb.values import SEQUENCES, phases_of, time_of
 from tsb.worksheet import Worksheet
 
 PHASES, SPLITS, SEQUENCE, PATTERNS = "Phases", "Splits", "Sequences", "Patterns"
 # Tables that have places of their own; all others follow one another.
-IN_PLACES = (PHASES, SPLITS, SEQUENCE, PATTERNS, *SCHEDULE)
+IN_PLACES = (PHASES, SPLITS, SEQUENCE, PATTERNS, *SCHEDULE, MONITOR)
+# What a channel of a conflict monitor shows, by its type.
+CHANNELS = {2: "phase {}", 3: "pedestrians of phase {}", 4: "overlap {}"}
 SAME = "–"  # of a phase and itself
 
 
@@ -64,7 +66,9 @@ def page_of(name: str, text: bytes, plan: Plan, title: str | None) -> str:
         other_splits=_other_splits(by_title[SPLITS], wide),
         intergreens=intergreens(wide),
         others=[it for table in others if (it := grid_of(table, wide)).rows],
-        entries=entries(plan.worksheet()),
+        entries=entries(plan.worksheet(), not plan.has_trails),
+        has_trails=plan.has_trails,
+        card=card_of(wide),
         schedule=schedule_of(wide),
         notes=Grid("Notes", ["of", "note"], [[*it] for it in plan.notes.items()]),
         advices=plan.review(),
@@ -198,15 +202,29 @@ def _pedestrians(plan: Plan) -> dict[int, str]:
     return {it: f"{walks[it]} + {clearances[it]}" for it in walks if it in plan.phases}
 
 
-def entries(worksheet: Worksheet) -> Grid:
+def entries(worksheet: Worksheet, is_proved: bool) -> Grid:
     """The preempts that are ever served, as columns, with their longest entries."""
-    of = worksheet.entries
+    of, proved = worksheet.entries, "proved" if is_proved else "not proved"
     rows = {
         "delay (s)": {it: entry.delay for it, entry in of.items()},
-        "longest entry, proved (s)": {it: entry.longest for it, entry in of.items()},
+        f"longest entry, {proved} (s)": {it: entry.longest for it, entry in of.items()},
     }
     shown = [[name, *_tenths(cells).values()] for name, cells in rows.items() if cells]
     return Grid("Preempts: the longest entry", ["preempt", *map(str, of)], shown)
+
+
+def card_of(plan: Plan) -> Grid:
+    """The program card of a conflict monitor, where the plan names its channels: what
+    each shows, and the channels that are permissive with it."""
+    head = ["channel", "shows", "permissive with channels"]
+    types, sources = plan["channelControlType"], plan["channelControlSource"]
+    pairs = plan.card() if types or sources else ()
+    rows = []
+    for channel in sorted({*types, *sources}):
+        beside = sorted({*chain(*(it for it in pairs if channel in it))} - {channel})
+        shows = CHANNELS.get(types[channel], "nothing of {}").format(sources[channel])
+        rows.append([str(channel), shows, ", ".join(map(str, beside))])
+    return Grid("Conflict monitor", head, rows)
 
 
 def _other_splits(table: Table, plan: Plan) -> Grid:

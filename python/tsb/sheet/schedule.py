@@ -1,7 +1,7 @@
 """The schedule of a plan as a sheet has it: days by name, and events by the time."""
 
 import calendar
-from collections.abc import Iterator, Sequence
+from collections.abc import Iterable, Iterator, Sequence
 from dataclasses import dataclass
 
 from tsb.plan import Plan
@@ -29,10 +29,24 @@ def schedule_of(plan: Plan) -> list[Part]:
     entries = Part("On which days", head, list(_entries(plan)))
     head = ["day plan, event", "time", "action", "selects"]
     events = Part("Day plans", head, list(_events(plan)))
-    actions = plan["timebaseAscPattern"]
-    rows = [[str(it), _selected(actions[it])] for it in actions]
-    return [it for it in (entries, events, Part("Actions", ["action", "selects"], rows))
-            if it.rows]  # fmt: skip
+    parts = entries, events, _actions(plan)
+    return [it for it in parts if it.rows]
+
+
+def _actions(plan: Plan) -> Part:
+    """A row for each action, with the arrows that it omits where one omits some."""
+    selected, omitted = plan["timebaseAscPattern"], plan["actionArrowOmit"]
+    head = ["action", "selects", *["arrows that do not flash"] * bool(omitted)]
+    rows = [
+        [str(it), _selected(selected[it]), *[_listed(omitted.phases(it))] * bool(omitted)]
+        for it in sorted({*selected, *omitted})
+    ]
+    return Part("Actions", head, rows)
+
+
+def _listed(numbers: Iterable[int]) -> str:
+    """Numbers that rise, with commas between."""
+    return ", ".join(map(str, sorted(numbers)))
 
 
 def _entries(plan: Plan) -> Iterator[list[str]]:

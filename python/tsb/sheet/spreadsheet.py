@@ -236,7 +236,7 @@ class _Reading:
         return int(number)
 
     def _phases(self, what: Object, cell: str) -> int:
-        """The list of phases of a cell."""
+        """The list of phases or overlaps of a cell."""
         words = re.split(r"[\s,;+]+", cell)
         most = 8 if self.plan.version == 1 else 16
         if words == ["0"]:
@@ -244,7 +244,7 @@ class _Reading:
         if not all(
             re.fullmatch(r"\d{1,2}", it) and 1 <= int(it) <= most for it in words
         ):
-            raise _Fault(f"no phases of 1 to {most} with spaces between")
+            raise _Fault(f"no {what.member}s of 1 to {most} with spaces between")
         return number_of(what, map(int, words), self.plan.version)
 
 

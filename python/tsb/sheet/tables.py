@@ -7,11 +7,13 @@ from itertools import product
 from tsb.manual import OBJECTS, Object
 from tsb.values import DATES, EVENTS, SEQUENCE, SPLITS, TENTH, Index, parts_of
 
+MONITOR = "Channels"
 #: The titles of tables, by what the index of their objects counts. A table of another
 #: index is called by that.
 TITLES = {
     "": "Unit", SPLITS: "Splits", SEQUENCE: "Sequences", "entry": "Schedule",
     DATES: "Days of the month", EVENTS: "Day plans",
+    "channel of the monitor": MONITOR,
 }  # fmt: skip
 #: The titles of the tables that are the schedule.
 SCHEDULE = ("Schedule", "Days of the month", "Day plans", "Actions")

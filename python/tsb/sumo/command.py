@@ -261,10 +261,13 @@ def _example(words: Sequence[str]) -> int:
     of.add_argument("--seed", type=int, default=1)
     of.add_argument("--seconds", type=int, default=3600)
     of.add_argument("--pedestrians", action="store_true")
+    of.add_argument(
+        "--arrows", action="store_true", help="left turns have flashing yellow arrows"
+    )
     of.add_argument("--engines", type=int, default=0, metavar="SECONDS")
     given = of.parse_args(words)
     folder: Path = given.folder
-    crossroads.build(folder, given.pedestrians)
+    crossroads.build(folder, given.pedestrians, given.arrows)
     crossroads.demand(
         folder / "routes.xml", given.level, given.seed, given.seconds,
         given.pedestrians, given.engines,
@@ -272,6 +275,8 @@ def _example(words: Sequence[str]) -> int:
     plan = crossroads.plan(pattern=True)
     if given.pedestrians:
         crossroads.with_pedestrians(plan)
+    if given.arrows:
+        plan = crossroads.with_arrows(plan)
     plan.write(folder / "plan.json")
     mapping = Mapping.read(folder / "mapping.json")
     print(f"{folder}: net.xml, detectors.xml, routes.xml, plan.json, mapping.json")

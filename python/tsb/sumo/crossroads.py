@@ -53,14 +53,19 @@ ZONE, ADVANCE = 20, 10  # metres: of a zone, and of a loop before the bay
 WALKERS = 60  # pedestrians an hour over each crossing
 
 PHASES = range(1, 9)
+# The left turn of each overlap that is a flashing yellow arrow, and the through phase
+# that opposes it.
+ARROWS = {1: (1, 2), 2: (3, 4), 3: (5, 6), 4: (7, 8)}
+ARROW_DELAY = 20  # tenths of a second
 
 Values = dict[Any, Value]  # of an object of a plan, by index
 
 
-def build(folder: Path, pedestrians: bool = False) -> Mapping:
+def build(folder: Path, pedestrians: bool = False, arrows: bool = False) -> Mapping:
     """Writes the net `net.xml`, its detectors `detectors.xml` and its mapping
     `mapping.json`: gives the mapping. With pedestrians it has sidewalks, and a
-    crossing with buttons on each leg."""
+    crossing with buttons on each leg. With arrows left turns have the heads of
+    overlaps, for a plan of `with_arrows`."""
     folder.mkdir(parents=True, exist_ok=True)
     _net(folder, pedestrians)
     channels = _detectors(folder, 1 if pedestrians else 0)
@@ -79,9 +84,11 @@ def build(folder: Path, pedestrians: bool = False) -> Mapping:
         APPROACHES[_before(it.crossed[0][0])].through: (name,)
         for name, it in found.crossings.items()
     }
+    lefts = {at: phases.pop(turn) for at, (turn, _) in ARROWS.items() if arrows}
     mapping = Mapping(
         "C",
         phases={at: tuple(it) for at, it in phases.items()},
+        overlaps={at: tuple(it) for at, it in lefts.items()},
         permissive={at: tuple(it) for at, it in sorted(beside.items())},
         pedestrians=dict(sorted(crossings.items())),
         channels={at: tuple(it) for at, it in channels.items()},
@@ -301,6 +308,17 @@ def with_pedestrians(made: Plan) -> Plan:
     made["phasePedestrianClear"] = {2: 9, 4: 16, 6: 9, 8: 16}
     made["pedestrianDetectorCallPhase"] = {at: at for at in through}
     return made
+
+
+def with_arrows(made: Plan) -> Plan:
+    """The plan, of version 3, with left turns that are permissive too: each is an
+    overlap that flashes yellow beside the through phase across it."""
+    found = made.wide(3)
+    found["overlapType"] = dict.fromkeys(ARROWS, 2)
+    found["overlapModifierPhases"] = {at: {turn} for at, (turn, _) in ARROWS.items()}
+    found["overlapIncludedPhases"] = {at: {it} for at, (_, it) in ARROWS.items()}
+    found["overlapArrowDelay"] = dict.fromkeys(ARROWS, ARROW_DELAY)
+    return found
 
 
 def lagging(latched: bool = False) -> Plan:

@@ -12,10 +12,11 @@ from tsb.plan import Plan
 from tsb.sumo.mapping import Mapping, MappingFault
 from tsb.sumo.net import Light, light
 
-# A letter of SUMO for a head, and for a link that goes beside a phase and yields.
-# Flashing red is SUMO's s: stop, then go where nobody else does.
-VEHICLE = {"G": "G", "Y": "y", "R": "r", "F": "s", "-": "r"}
-BESIDE = {"G": "g", "Y": "y", "R": "r", "F": "s", "-": "r"}
+# A letter of SUMO for a head, and for a link that goes beside a phase and yields. A
+# flashing yellow arrow yields, and flashing red is SUMO's s: stop, then go where nobody
+# else does.
+VEHICLE = {"G": "G", "Y": "y", "R": "r", "P": "g", "F": "s", "-": "r"}
+BESIDE = {"G": "g", "Y": "y", "R": "r", "P": "g", "F": "s", "-": "r"}
 # People on a crossing walk on in the clearance, and nobody begins to.
 WALKER = {"W": "G", "C": "r", "D": "r", "-": "r"}
 FIRST = "Ggysr"  # of several letters for a link, the first of these
@@ -140,7 +141,12 @@ def met(light: Light, mapping: Mapping, plan: Plan) -> Iterator[tuple[int, int]]
     """The pairs of links that the plan gives a protected green at once, though their
     ways meet in the net."""
     phase_of = {link: at for at, links in mapping.phases.items() for link in links}
-    beside = {at: {at} | plan["phaseConcurrency"].phases(at) for at in mapping.phases}
+    # (the green of an arrow is that of its turn)
+    for overlap, links in mapping.overlaps.items():
+        if turn := plan.turn_of(overlap):
+            phase_of |= dict.fromkeys(links, turn)
+    phases = set(phase_of.values())
+    beside = {at: {at} | plan["phaseConcurrency"].phases(at) for at in phases}
     for link, other in sorted(light.foes):
         one, two = phase_of.get(link), phase_of.get(other)
         if one is not None and two is not None:

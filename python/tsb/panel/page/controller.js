@@ -2,12 +2,14 @@
 // trip and lamps. All of it is what the bench's status says.
 
 import { byId, el, mark, say, seconds } from "./dom.js";
+import { members } from "./numbers.js";
 
-const LETTERS = { P: ["G", "Y", "R"], W: ["W", "C", "D"], O: ["G", "Y", "R"] };
-const FREE = 254;
+const LETTERS = { P: ["G", "Y", "R"], W: ["W", "C", "D"], O: ["G", "Y", "R", "P"] };
+const FREE = 254, ARROW = 2, LIST_MOST = 65535;
 
 export class Controller {
-  constructor(ask) {
+  /** `ask` sends a request, and `told` shows what is wrong with what was typed. */
+  constructor(ask, told) {
     this.ask = ask;
     this.phases = new Map();
     byId("select-pattern").addEventListener("click", () => ask({ do: "pattern", number: Number(byId("patterns").value) }));
@@ -15,6 +17,13 @@ export class Controller {
     byId("head").addEventListener("change", () => this.letters());
     byId("light").addEventListener("click", () => ask({ do: "lamp", head: byId("head").value, lamp: byId("lamp-letter").value }));
     byId("no-lamp").addEventListener("click", () => ask({ do: "nolamp" }));
+    byId("omit").addEventListener("click", () => {
+      try {
+        ask({ do: "omit", number: members(byId("omitted").value, "overlap", LIST_MOST) });
+      } catch (fault) {
+        told(fault);
+      }
+    });
   }
 
   /** Draws what a plan has. */
@@ -30,6 +39,9 @@ export class Controller {
     ];
     byId("head").replaceChildren(...heads.map((it) => el("option", { value: it }, it)));
     this.letters();
+    const types = plan.values.overlapType ?? {};
+    const hasArrow = Object.keys(plan.layout.overlaps).some((it) => types[it] === ARROW);
+    for (const id of ["arrows-name", "arrows"]) byId(id).hidden = !hasArrow;
   }
 
   letters() {
@@ -114,6 +126,7 @@ export class Controller {
     const preempts = this.plan.preempts.map((it) => `${it}: ${state.preempts[it - 1]}`);
     say(byId("preempts"), preempts.join("; ") || "none in this plan");
     say(byId("alarms"), state.alarms.length ? `detectors ${state.alarms.join(", ")}` : "none");
+    say(byId("flashing"), state.flashing.length ? `overlaps ${state.flashing.join(", ")} flash` : "none flashes");
     say(byId("flash"), state.flash);
     say(byId("lamp"), state.lamp === null ? "none is lit" : `${state.lamp} is lit`);
     byId("reset").disabled = !state.tripped;

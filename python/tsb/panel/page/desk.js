@@ -1,15 +1,15 @@
 // The desk: a station's transaction, by the names, units and ranges of the manual.
 
 import { byId, el, mark, say } from "./dom.js";
-import { listed, phases, whole } from "./numbers.js";
+import { listed, memberOf, members, whole } from "./numbers.js";
 
 const NUMBER_MOST = 2 ** 32 - 1; // the greatest number that a command can have
 
-/** A value with its unit; a list of phases by their numbers too. */
+/** A value with its unit; a list by the numbers of its members too. */
 function inUnit(value, unit) {
-  if (unit !== "list of phases") return `${value} (${unit})`;
-  const phases = Array.from({ length: 16 }, (_, at) => at + 1).filter((it) => (value >> (it - 1)) & 1);
-  return `${value} (phases ${phases.join(", ") || "none"})`;
+  const name = memberOf(unit);
+  if (!name) return `${value} (${unit})`;
+  return `${value} (${name}s ${value ? listed(value).replaceAll(",", ", ") : "none"})`;
 }
 
 /** What an index that is a table's or a sequence's means, as `18 is table 2, phase 2`. */
@@ -47,8 +47,8 @@ export class Desk {
     const name = byId("object").value, text = byId("value").value;
     // (what is out of the range of an object, the bench refuses in its own words)
     const index = whole(byId("index").value, "an index", 0, NUMBER_MOST);
-    const isList = this.all[name]?.unit === "list of phases";
-    return { name, index, value: isList ? phases(text, NUMBER_MOST) : whole(text, "a value", 0, NUMBER_MOST) };
+    const member = memberOf(this.all[name]?.unit);
+    return { name, index, value: member ? members(text, member, NUMBER_MOST) : whole(text, "a value", 0, NUMBER_MOST) };
   }
 
   /** The objects that there are. */
@@ -78,7 +78,7 @@ export class Desk {
     const now = this.plan?.values[name]?.[byId("index").value] ?? 0;
     const rest = it.structural ? " A commit changes it only while nothing is in service." : "";
     say(byId("object-says"), `${it.meaning}. ${parts(it, byId("index").value)}Index 1 to ${it.count}, value ${it.range}; in effect: ${inUnit(now, it.unit)}.${rest}`);
-    const shown = it.unit === "list of phases" ? listed(now) : String(now);
+    const shown = memberOf(it.unit) ? listed(now) : String(now);
     if (document.activeElement !== byId("value")) byId("value").value = shown;
   }
 

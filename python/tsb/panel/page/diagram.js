@@ -1,5 +1,6 @@
 // The phase diagram: a row for each head, read in black and white. Green and walk are
-// tall bars, yellow and clearance striped, red and don't walk thin lines. Where a column
+// tall bars, yellow and clearance striped, a flashing yellow arrow striped and broken,
+// red and don't walk thin lines. Where a column
 // holds more than it can show, the height of its bar is the share of right of way.
 
 import { byId, clock, firstAt } from "./dom.js";
@@ -127,6 +128,9 @@ export class Diagram {
       pen.fillRect(from, y + high - (letter === "R" ? 2 : 1), width, letter === "R" ? 2 : 1);
     } else if (letter === "F") {
       for (let x = from; x < to; x += 6) pen.fillRect(x, y + high / 2, Math.min(3, to - x), high / 2);
+    } else if (letter === "P") {
+      pen.fillStyle = this.stripes.Y;
+      for (let x = from; x < to; x += 9) pen.fillRect(x, y + high * 0.25, Math.min(6, to - x), high * 0.75);
     } else if (this.stripes[letter]) {
       pen.fillStyle = this.stripes[letter];
       pen.fillRect(from, y + (letter === "C" ? high * 0.25 : 0), width, letter === "C" ? high * 0.75 : high);

@@ -10,6 +10,10 @@ const LANES = { left: 15, through: 45, right: 75 };
 const HALF = 92, CROSSING = 98, ZEBRA = 26, STOP = 130, HEAD = 136, LENS = 17, FIRST = 200, DETECTOR = 28, IN_LANE = 3;
 const EDGE = 312;
 const LAMPS = ["R", "Y", "G"];
+// An overlap of this type is a flashing yellow arrow, whose head has four lenses.
+const ARROW = 2, ARROW_LAMPS = ["R", "Y", "P", "G"], ARROW_LENS = 14.5;
+// How far an arrow that points up as one enters from the west, to the left, is turned.
+const POINTS = { left: 0, through: 90, right: 180 };
 // Where the digits of each kind begin among those of all inputs, and the letter of each.
 const KINDS = {
   vehicle: { begins: 0, letter: "D", name: "detector" },
@@ -25,6 +29,12 @@ function point(leg, along, across) {
 }
 
 const text = (x, y, words, name = "") => svg("text", { x, y, class: name }, words);
+
+/** The lens of an arrow, which points where the lane turns as one who enters sees it. */
+function arrowLens(x, y, leg, turn) {
+  const rotated = `rotate(${(TURN[leg] ?? -90) + POINTS[turn]} ${x} ${y})`;
+  return svg("path", { d: `M${x} ${y - 7} l7 7 h-2.6 v6.5 h-8.8 v-6.5 h-2.6 z`, transform: rotated });
+}
 
 export class Intersection {
   /** `ask` sends a request, `mode` gives how a click acts, and `pulse` asks for a pulse of an input. */
@@ -89,9 +99,22 @@ export class Intersection {
     this.node.append(svg("rect", { x: X - HALF, y: Y - HALF, width: 2 * HALF, height: 2 * HALF, class: "asphalt" }));
   }
 
+  /** The protected turn of a flashing yellow arrow; 0 of all else. */
+  turnOf(kind, number) {
+    const { overlapType, overlapModifierPhases } = this.plan.values;
+    if (kind !== "O" || overlapType?.[number] !== ARROW) return 0;
+    return this.plan.phases.find((it) => (overlapModifierPhases?.[number] >> (it - 1)) & 1) ?? 0;
+  }
+
+  /** Whether an arrow is the head of a phase's lane, in place of the phase's own. */
+  isArrows(phase, lane) {
+    return Object.entries(this.plan.layout.overlaps).some(([number, it]) =>
+      this.turnOf("O", Number(number)) === phase && it.leg === lane.leg && it.turn === lane.turn);
+  }
+
   /** A lane of a phase or an overlap: its head, its detectors and its movement. */
   lane(kind, number, lane) {
-    if (!(lane.leg in TURN)) return this.listed(kind, number);
+    if (!(lane.leg in TURN)) return this.listed(kind, number, lane);
     const across = LANES[lane.turn];
     const turn = `rotate(${TURN[lane.leg]} ${X} ${Y})`;
     // (a right turn is drawn over the crossings too: its bend alone would be too short to see)
@@ -106,11 +129,15 @@ export class Intersection {
       left: `M${X + across - 9} ${Y - HALF + 16} l9 -14 l9 14 z`,
       right: `M${X - across - 9} ${Y + far - 14} l9 14 l9 -14 z`,
     };
-    const move = svg("g", { transform: turn, class: `move ${kind}` },
-      svg("path", { d: paths[lane.turn], class: "way" }), svg("path", { d: ends[lane.turn], class: "arrow" }));
-    this.node.append(move);
-    this.moves.push([kind, number, move]);
-    this.head(kind, number, lane.leg, across, turn);
+    const protectedTurn = this.turnOf(kind, number);
+    if (kind !== "P" || !this.isArrows(number, lane)) {
+      const move = svg("g", { transform: turn, class: `move ${protectedTurn ? "A" : kind}` },
+        svg("path", { d: paths[lane.turn], class: "way" }), svg("path", { d: ends[lane.turn], class: "arrow" }));
+      this.node.append(move);
+      this.moves.push([kind, number, move]);
+      if (protectedTurn) this.arrow(number, protectedTurn, lane, across, turn);
+      else this.head(kind, number, lane.leg, across, turn);
+    }
     if (kind === "P") {
       const places = Array.from({ length: IN_LANE }, (_, at) => point(lane.leg, FIRST + DETECTOR / 2 + at * (DETECTOR + 5), across));
       this.detectors(number, places);
@@ -165,16 +192,37 @@ export class Intersection {
     this.heads.push([kind, number, lenses]);
   }
 
+  /** The head of an arrow: four lenses as arrows, the red one farthest from the stop line, and the name of its turn. */
+  arrow(number, phase, { leg, turn }, across, rotated) {
+    const box = svg("rect", {
+      x: X - HEAD - 4 * ARROW_LENS - 3, y: Y + across - LENS / 2 - 3, width: 4 * ARROW_LENS + 6, height: LENS + 6, rx: 4,
+      transform: rotated, class: "housing",
+    });
+    const lenses = ARROW_LAMPS.map((lamp, at) => {
+      const [x, y] = point(leg, HEAD + ARROW_LENS * (3.5 - at), across);
+      const letter = text(x, y, lamp, "letter");
+      return [lamp, svg("g", { class: `lens ${lamp}` }, arrowLens(x, y, leg, turn), letter), letter];
+    });
+    const [x, y] = point(leg, EDGE - 14, across);
+    this.node.append(svg("g", { role: "img", "aria-label": `arrow O${number} of phase ${phase}`, id: `head-O${number}` },
+      svg("title", {}, `overlap ${number}, the flashing yellow arrow of phase ${phase}`),
+      box, ...lenses.map(([, lens]) => lens)),
+      svg("text", { x, y, class: "phase-name" }, String(phase), svg("tspan", { dx: 2 }, `O${number}`)));
+    this.heads.push(["O", number, lenses]);
+  }
+
   /** What has no place: a head in the list at the upper right. */
-  listed(kind, number) {
+  listed(kind, number, lane) {
     const x = 530, y = 30 + 34 * this.beside;
     this.beside += 1;
-    const lenses = LAMPS.map((lamp, at) => {
-      const letter = text(x + 40 + LENS * at, y, lamp, "letter");
-      return [lamp, svg("g", { class: `lens ${lamp}` }, svg("circle", { cx: x + 40 + LENS * at, cy: y, r: LENS / 2 - 1 }), letter), letter];
+    const isArrow = this.turnOf(kind, number) > 0, step = isArrow ? ARROW_LENS : LENS, lamps = isArrow ? ARROW_LAMPS : LAMPS;
+    const lenses = lamps.map((lamp, at) => {
+      const at_x = x + 40 + step * at, letter = text(at_x, y, lamp, "letter");
+      const shape = isArrow ? arrowLens(at_x, y, "", lane.turn) : svg("circle", { cx: at_x, cy: y, r: LENS / 2 - 1 });
+      return [lamp, svg("g", { class: `lens ${lamp}` }, shape, letter), letter];
     });
     this.node.append(text(x, y, kind === "P" ? `${number}` : `O${number}`, "phase-name"),
-      svg("rect", { x: x + 28, y: y - LENS / 2 - 3, width: 3 * LENS + 6, height: LENS + 6, rx: 4, class: "housing" }),
+      svg("rect", { x: x + 28, y: y - LENS / 2 - 3, width: step * lamps.length + 6, height: LENS + 6, rx: 4, class: "housing" }),
       svg("g", { id: `head-${kind}${number}` }, ...lenses.map(([, lens]) => lens)));
     this.heads.push([kind, number, lenses]);
     if (kind === "O") this.node.append(text(x + 114, y, this.included(number), "small"));
@@ -297,7 +345,7 @@ export class Intersection {
     for (const [kind, number, lenses] of this.heads) this.light(letterOf(kind, number), lenses);
     for (const [kind, number, move] of this.moves) {
       const letter = letterOf(kind, number);
-      for (const it of ["G", "Y"]) mark(move, it, letter === it);
+      for (const it of ["G", "Y", "P"]) mark(move, it, letter === it);
     }
     for (const [number, group, signal, letter] of this.walks) {
       const shown = pedestrians[number - 1];

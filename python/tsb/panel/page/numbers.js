@@ -39,25 +39,28 @@ export function moment(text, isDated) {
   return { day: found[1], time: `${found[2].padStart(2, "0")}:${found[3]}:${found[4] ?? "00"}` };
 }
 
-/** The number of a list of phases: as 2,6, or as `= 34` the number itself. */
-export function phases(text, high) {
+/** The number of a list of phases or overlaps: as 2,6, or as `= 34` the number itself. */
+export function members(text, name, high) {
   const typed = text.trim();
   if (typed.startsWith("=")) return whole(typed.slice(1), "the number behind =", 0, high);
-  const cure = "enter phases with commas between, as 2,6; 0 for none; or = and their number, as =34";
+  const cure = `enter ${name}s with commas between, as 2,6; 0 for none; or = and their number, as =34`;
   const parts = typed.split(/[,;\s]+/).filter((part) => part);
-  if (!parts.length) throw new Typed("the list of phases is empty", cure);
+  if (!parts.length) throw new Typed(`the list of ${name}s is empty`, cure);
   let found = 0;
   for (const it of parts) {
-    const phase = Number(it);
-    if (!/^\d+$/.test(it) || phase > 16) throw new Typed(`${it} is no phase`, cure);
-    if (phase === 0 && typed !== "0") throw new Typed("0 is no phase", cure);
-    if (phase) found += ((found >> (phase - 1)) & 1) ? 0 : 2 ** (phase - 1);
+    const number = Number(it);
+    if (!/^\d+$/.test(it) || number > 16) throw new Typed(`${it} is no ${name}`, cure);
+    if (number === 0 && typed !== "0") throw new Typed(`0 is no ${name}`, cure);
+    if (number) found += ((found >> (number - 1)) & 1) ? 0 : 2 ** (number - 1);
   }
   if (found > high) throw new Typed(`${typed} is no list of this object`, cure);
   return found;
 }
 
-/** The phases of a number, as they are typed. */
+/** What a value is a list of, as phase; nothing of other units. */
+export const memberOf = (unit) => /^list of (.+)s$/.exec(unit ?? "")?.[1] ?? "";
+
+/** The members of a list that has this number, as they are typed. */
 export function listed(number) {
   const found = Array.from({ length: 16 }, (_, at) => at + 1).filter((it) => (number >> (it - 1)) & 1);
   return found.join(",") || "0";

@@ -54,7 +54,7 @@ class Page {
     this.target = null;
     const ask = (what) => this.ask(what);
     this.intersection = new Intersection(ask, () => this.mode(), (kind, number) => this.pulse(kind, number));
-    this.controller = new Controller(ask);
+    this.controller = new Controller(ask, (fault) => this.told(fault));
     this.beside = null;
     this.desk = new Desk(ask, (fault) => this.toldBeside("desk-said", fault));
     this.detail = new Diagram("detail", 13);
