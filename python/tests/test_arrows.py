@@ -231,9 +231,8 @@ def test_rules_have_their_cures(arrows: Plan) -> None:
 def test_a_worksheet_counts_trails(examples: Path) -> None:
     """Preempt 1 of the plan leaves 12.0 s of walk and clearance, and 5 s of green. An
     overlap of phase 4 that has 5.0 s of yellow and 5.0 s of red clears longer than the
-    5.5 s of each phase. It may begin at the end of a clearance of 10.0 s: 20.0 + 5.0 + 0.1 s
-    are then longer than the 12.0 s, and 10.0 s and four ticks come after them. One that does
-    not trail counts for nothing."""
+    5.5 s of each phase: 10.0 + 5.0 + 0.1 s are then longer than the 12.0 s, and 10.0 s and
+    four ticks come after them. One that does not trail counts for nothing."""
     plan = Plan.read(examples / "main_and_oak.json").wide(3)
     longest = plan.worksheet().entries[1].longest
     assert longest == 120 + 55 + 4
@@ -241,7 +240,7 @@ def test_a_worksheet_counts_trails(examples: Path) -> None:
     plan["overlapTrailYellow"][2] = plan["overlapTrailRed"][2] = 50
     assert plan.worksheet().entries[1].longest == longest
     plan["overlapTrailGreen"][2] = 200
-    assert plan.worksheet().entries[1].longest == 200 + 50 + 1 + 100 + 4
+    assert plan.worksheet().entries[1].longest == 100 + 50 + 1 + 100 + 4
 
 
 def test_a_trail_is_cut_by_a_preempt(examples: Path, arrows: Plan) -> None:
@@ -252,8 +251,8 @@ def test_a_trail_is_cut_by_a_preempt(examples: Path, arrows: Plan) -> None:
     arrows["preemptDwellPhase"] = {1: {2, 6}}
     arrows["preemptMinimumGreen"] = {1: 3}
     longest = arrows.worksheet().entries[1].longest
-    # (twice 8.5 s and 3.0 s and a tick, and 8.5 s and four ticks)
-    assert longest == 170 + 30 + 1 + 85 + 4
+    # (8.5 s and 3.0 s and a tick, and 8.5 s and four ticks)
+    assert longest == 85 + 30 + 1 + 85 + 4
     found = []
     with Bench(arrows, examples / "lead_and_lag.log", events=False) as bench:
         bench.step(300)
