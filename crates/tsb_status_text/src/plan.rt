@@ -20,8 +20,8 @@ use tsb_objects::{Object, Plan, Version};
 /// The name of the member that gives the version.
 const VERSION: &str = "version";
 
-/// The plan as one plan text, without spaces and without a line feed. The text is of version 2, or of version 3 where an
-/// object is not 0 at an index that version 2 has not, or has a value there that version 2 has not.
+/// The plan as one plan text, without spaces and without a line feed. The text is of version 2 where that has each index at
+/// which an object is not 0, up to its value there; else it is of version 3.
 ///
 /// `version` comes first, then each object that is not all zeros, in the order of `Object::ALL`, and of each object the
 /// indices at which it is not 0, in ascending order. So two plans are the same exactly where their lines are. An `Err`

@@ -104,7 +104,7 @@ trail-refused tells given is i next left same =
     let all : length left ≡ length is = ap length same in
     rw (le-ltb (length is) (length left) (omega (arith, all))) refl
 
--- what follows is told so: it was taken, and what follows that is told; or nothing is left, or it was refused
+-- what follows was taken, and then what follows that; or nothing is left, or it was refused
 trailing-taken : (tells : Bool) (given : Setup) (is : List Input) (i : Input) (next : List Input) (text : List ℕ) (stop : Option Refusal) (left : List Input) → IsRight given.plan is (Apply i) answers.Took
     → Trailing given tells (i ∷ is) next text stop left → Trailing given tells is (i ∷ next) (news tells given is i ++ text) stop left
 trailing-taken tells given is i next text stop left right t = record {
@@ -136,7 +136,7 @@ pub trailed-start : (given : Setup) (log : List LogRow) (tells : Bool) (is : Lis
 trailed-start given log tells is course p u s =
     record { now = is; stands = s; wrote = record { text = []; said = said-nothing p u; so = λ text stop left t. t } }
 
--- what the newest input told
+-- the events of the newest input
 news-same : (given : Setup) (log : List LogRow) (now : List Input) (new : OnCourse) (mode : Mode) (i : Input) → new.mode ≡ mode → Took (Ok tt) given log new now i → news_in new ≡ news (tells_in mode) given now i
 news-same given log now new mode i same took =
     told-alike (tells_in new.mode) new.news (events_of (usual_after (last_row now)) (replay given.plan now) i) took.2 ∙ ap (λ (m : Mode). news (tells_in m) given now i) same
