@@ -60,8 +60,8 @@ pub fn initials_pass_as_shown()
 /// Needs: an untripped stretch. No output of the phase was on in the tick that was shown. In each tick of the stretch the
 /// phase was Green, no output of it is on, and its gap is as long as it was shown.
 /// Not said: anything of a gap that is being reduced, which runs out sooner, or of one whose output is still on.
-/// Mistake: as of yellows (`gap_would_show_39`, `not_in_39`, `expires_in_40`).
-/// Witness: `a_gap` of LeftRuns, of 40 ticks.
+/// Mistake: as of yellows (`gap_would_show_22`, `not_in_22`, `expires_in_23`).
+/// Witness: `a_gap` of LeftRuns, of 23 ticks.
 pub fn gaps_expire_as_shown()
     ensures { GapsExpireAsShown }
 {}
@@ -71,9 +71,9 @@ pub fn gaps_expire_as_shown()
 /// Needs: an untripped stretch. In each of its ticks the phase was Green and has a conflict, and the maximum that acts on
 /// it is as long as it was shown.
 /// Not said: that the green ends then: its walk and its initial time come first, and the barrier may keep it.
-/// Mistake: a maximum that is shown from the beginning of the green (`maximum_would_show_29`, `not_maxed_in_29`,
-/// `maxes_out_in_30`).
-/// Witness: `a_maximum` of LeftRuns, of 30 ticks.
+/// Mistake: a maximum that is shown from the beginning of the green (`maximum_would_show_19`, `not_maxed_in_19`,
+/// `maxes_out_in_20`).
+/// Witness: `a_maximum` of LeftRuns, of 20 ticks.
 pub fn maximums_pass_as_shown()
     ensures { MaximumsPassAsShown }
 {}

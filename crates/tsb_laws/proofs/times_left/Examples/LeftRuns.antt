@@ -1,6 +1,6 @@
 -- A run from power-up that meets the premises of the laws of times that are left of a green: 2 walks for 10 ticks and clears
--- for 10, its green lasts 20 ticks at least and its gap is 40. Without a conflict it rests; where 1 is called it maxes out after
--- 30. And mistakes that these laws refuse.
+-- for 10, its green lasts 20 ticks at least and its gap is 23. Without a conflict it rests; where 1 is called it maxes out after
+-- 20. And mistakes that these laws refuse.
 use Rattle.std.proofs.Common.{◌≡◌, ℕ, ◌+◌, ◌-◌, ◌≤◌, ◌==◌, Bool, true, false, not, ◌&&◌, List, [], ◌∷◌, ◌++◌, Option, Some, None, refl, sym, ap, arith, ◌∙◌}
 use Rattle.std.proofs.lemmas.Bool.{not-true, and_parts, eqb-true}
 use Rattle.tsb_step.specs.tsb_cells.declared.timer.Timer.{Timer}
@@ -37,7 +37,7 @@ use Rattle.tsb_laws.proofs.times_left.Examples.TickTests.{passes, each_by, IsStr
 abbrev leaving_values : List (Object × ℕ × ℕ)
 leaving_values =
     (PhaseWalk, 2, 1) ∷ (PhasePedestrianClear, 2, 1) ∷ (PhasePedRecall, 2, 1) ∷
-    (PhaseMinimumGreen, 2, 2) ∷ (PhaseMaximum1, 2, 3) ∷ (PhasePassage, 2, 40) ∷ (PhaseMinimumGap, 2, 40) ∷ []
+    (PhaseMinimumGreen, 2, 2) ∷ (PhaseMaximum1, 2, 2) ∷ (PhasePassage, 2, 23) ∷ (PhaseMinimumGap, 2, 23) ∷ []
 
 unfoldable pub leaving : Plan
 leaving = with_values quad leaving_values
@@ -94,7 +94,7 @@ begun_at = refl
 abbrev green_shown : State → Option ℕ × Option ℕ × Option ℕ × Option ℕ
 green_shown s = ((ring_1 s).phase, (ring_1 s).walk_left, (ring_1 s).initial_left, (ring_1 s).gap_left)
 
-at_begin : green_shown (replay leaving begun) ≡ (Some 2, Some 10, Some 20, Some 40)
+at_begin : green_shown (replay leaving begun) ≡ (Some 2, Some 10, Some 20, Some 23)
 unfolding shown_opened
 at_begin = refl
 
@@ -252,53 +252,53 @@ initial_would_show_19 = refl
 abbrev tests_gap : State → Row → Bool
 tests_gap s row =
     is_green (interval s 2) && (not ((phases_given s row).output 2)
-    && gap s.plan 2 (reduction_timer s.plan (phases_given s row) 2 (held_of (phase_read s 2))) == 40)
+    && gap s.plan 2 (reduction_timer s.plan (phases_given s row) 2 (held_of (phase_read s 2))) == 23)
 
-rests_on : passes tests_gap all_off (replay leaving begun) 40 ≡ true
+rests_on : passes tests_gap all_off (replay leaving begun) 23 ≡ true
 unfolding opened leaving
 rests_on = refl
 
-gap_is_40 : gap (replay leaving begun).plan 2 ((replay leaving begun).phases 2).reduction ≡ 40
+gap_is_23 : gap (replay leaving begun).plan 2 ((replay leaving begun).phases 2).reduction ≡ 23
 unfolding opened leaving
-gap_is_40 = refl
+gap_is_23 = refl
 
 has_no_output : is_on ((replay leaving begun).phases 2).passage ≡ true
 unfolding opened leaving
 has_no_output = refl
 
-a_gap : Meets begun (ticks all_off 39) (IsShown (replay leaving begun) Ring1 2 (λ x. x.gap_left) 40)
-    (InEachTick (KeepsGap 2 (replay leaving begun)) leaving begun (Tick all_off ∷ ticks all_off 39))
+a_gap : Meets begun (ticks all_off 22) (IsShown (replay leaving begun) Ring1 2 (λ x. x.gap_left) 23)
+    (InEachTick (KeepsGap 2 (replay leaving begun)) leaving begun (Tick all_off ∷ ticks all_off 22))
 a_gap = record {
-  stretch = stretch_of 39 (omega arith);
+  stretch = stretch_of 22 (omega arith);
   shown = record {
     phase = ap (λ (x : Option ℕ × Option ℕ × Option ℕ × Option ℕ). x.0) at_begin;
     left = ap (λ (x : Option ℕ × Option ℕ × Option ℕ × Option ℕ). x.3) at_begin;
   };
-  each = each_by (KeepsGap 2 (replay leaving begun)) tests_gap keeps leaving all_off begun 40 rests_on;
+  each = each_by (KeepsGap 2 (replay leaving begun)) tests_gap keeps leaving all_off begun 23 rests_on;
 }
   where
     keeps : (s : State) (row : Row) → tests_gap s row ≡ true → KeepsGap 2 (replay leaving begun) s row
     keeps s row h =
         let outer = and_parts (is_green (interval s 2)) (not ((phases_given s row).output 2)
-        && gap s.plan 2 (reduction_timer s.plan (phases_given s row) 2 (held_of (phase_read s 2))) == 40) h in
+        && gap s.plan 2 (reduction_timer s.plan (phases_given s row) 2 (held_of (phase_read s 2))) == 23) h in
         let inner = and_parts (not ((phases_given s row).output 2))
-        (gap s.plan 2 (reduction_timer s.plan (phases_given s row) 2 (held_of (phase_read s 2))) == 40) outer.1 in
-        let now : gap s.plan 2 (reduction_timer s.plan (phases_given s row) 2 (held_of (phase_read s 2))) ≡ 40 =
-        eqb-true (gap s.plan 2 (reduction_timer s.plan (phases_given s row) 2 (held_of (phase_read s 2)))) 40 inner.1 in
-        let shown = gap_is_40 in
+        (gap s.plan 2 (reduction_timer s.plan (phases_given s row) 2 (held_of (phase_read s 2))) == 23) outer.1 in
+        let now : gap s.plan 2 (reduction_timer s.plan (phases_given s row) 2 (held_of (phase_read s 2))) ≡ 23 =
+        eqb-true (gap s.plan 2 (reduction_timer s.plan (phases_given s row) 2 (held_of (phase_read s 2)))) 23 inner.1 in
+        let shown = gap_is_23 in
         record { green = is_in_green (interval s 2) outer.0; quiet = not-true ((phases_given s row).output 2) inner.0; time = omega (arith, now, shown) }
 
-expires_in_40 : has_gapped 2 (replay leaving (ticks all_off 39 ++ begun)) all_off ≡ true
+expires_in_23 : has_gapped 2 (replay leaving (ticks all_off 22 ++ begun)) all_off ≡ true
 unfolding opened leaving
-expires_in_40 = refl
+expires_in_23 = refl
 
-not_in_39 : has_gapped 2 (replay leaving (ticks all_off 38 ++ begun)) all_off ≡ false
+not_in_22 : has_gapped 2 (replay leaving (ticks all_off 21 ++ begun)) all_off ≡ false
 unfolding opened leaving
-not_in_39 = refl
+not_in_22 = refl
 
-gap_would_show_39 : sooner 40 ((replay leaving begun).phases 2).passage ≡ 39
+gap_would_show_22 : sooner 23 ((replay leaving begun).phases 2).passage ≡ 22
 unfolding opened leaving
-gap_would_show_39 = refl
+gap_would_show_22 = refl
 
 -- ## Its maximum, where 1 is called
 
@@ -317,58 +317,58 @@ called_at = refl
 abbrev maximum_shown : State → Option ℕ × Option ℕ
 maximum_shown s = ((ring_1 s).phase, (ring_1 s).maximum_left)
 
-at_call : maximum_shown (replay leaving called) ≡ (Some 2, Some 30)
+at_call : maximum_shown (replay leaving called) ≡ (Some 2, Some 20)
 unfolding shown_opened
 at_call = refl
 
-abbrev is_thirty : Option ℕ → Bool
-is_thirty None = false
-is_thirty (Some m) = m == 30
+abbrev is_twenty : Option ℕ → Bool
+is_twenty None = false
+is_twenty (Some m) = m == 20
 
-thirty : (o : Option ℕ) → is_thirty o ≡ true → o ≡ Some 30
-thirty None h = cc
-thirty (Some m) h = ap Some (eqb-true m 30 h)
+twenty : (o : Option ℕ) → is_twenty o ≡ true → o ≡ Some 20
+twenty None h = cc
+twenty (Some m) h = ap Some (eqb-true m 20 h)
 
 abbrev tests_maximum : State → Row → Bool
 tests_maximum s row =
-    is_green (interval s 2) && ((phases_given s row).conflict 2 && is_thirty (acting_maximum s.plan (runs s) 2 (s.phases 2).running_maximum))
+    is_green (interval s 2) && ((phases_given s row).conflict 2 && is_twenty (acting_maximum s.plan (runs s) 2 (s.phases 2).running_maximum))
 
-presses_on : passes tests_maximum (vehicle 1) (replay leaving called) 30 ≡ true
+presses_on : passes tests_maximum (vehicle 1) (replay leaving called) 20 ≡ true
 unfolding opened leaving
 presses_on = refl
 
-maximum_is_30 : acting_maximum (replay leaving called).plan (runs (replay leaving called)) 2 ((replay leaving called).phases 2).running_maximum ≡ Some 30
+maximum_is_20 : acting_maximum (replay leaving called).plan (runs (replay leaving called)) 2 ((replay leaving called).phases 2).running_maximum ≡ Some 20
 unfolding opened leaving
-maximum_is_30 = refl
+maximum_is_20 = refl
 
-a_maximum : Meets called (ticks (vehicle 1) 29) (IsShown (replay leaving called) Ring1 2 (λ x. x.maximum_left) 30)
-    (InEachTick (KeepsMaximum 2 (replay leaving called)) leaving called (Tick (vehicle 1) ∷ ticks (vehicle 1) 29))
+a_maximum : Meets called (ticks (vehicle 1) 19) (IsShown (replay leaving called) Ring1 2 (λ x. x.maximum_left) 20)
+    (InEachTick (KeepsMaximum 2 (replay leaving called)) leaving called (Tick (vehicle 1) ∷ ticks (vehicle 1) 19))
 a_maximum = record {
-  stretch = ticks_stretch leaving (vehicle 1) called 29 leaving_consistent called_taken refl (let at = called_at in omega (arith, at));
+  stretch = ticks_stretch leaving (vehicle 1) called 19 leaving_consistent called_taken refl (let at = called_at in omega (arith, at));
   shown = record { phase = ap (λ (x : Option ℕ × Option ℕ). x.0) at_call; left = ap (λ (x : Option ℕ × Option ℕ). x.1) at_call };
-  each = each_by (KeepsMaximum 2 (replay leaving called)) tests_maximum keeps leaving (vehicle 1) called 30 presses_on;
+  each = each_by (KeepsMaximum 2 (replay leaving called)) tests_maximum keeps leaving (vehicle 1) called 20 presses_on;
 }
   where
     keeps : (s : State) (row : Row) → tests_maximum s row ≡ true → KeepsMaximum 2 (replay leaving called) s row
     keeps s row h =
         let outer = and_parts (is_green (interval s 2))
-        ((phases_given s row).conflict 2 && is_thirty (acting_maximum s.plan (runs s) 2 (s.phases 2).running_maximum)) h in
-        let inner = and_parts ((phases_given s row).conflict 2) (is_thirty (acting_maximum s.plan (runs s) 2 (s.phases 2).running_maximum)) outer.1 in
+        ((phases_given s row).conflict 2 && is_twenty (acting_maximum s.plan (runs s) 2 (s.phases 2).running_maximum)) h in
+        let inner = and_parts ((phases_given s row).conflict 2) (is_twenty (acting_maximum s.plan (runs s) 2 (s.phases 2).running_maximum)) outer.1 in
         record {
           green = is_in_green (interval s 2) outer.0;
           conflict = inner.0;
-          time = thirty (acting_maximum s.plan (runs s) 2 (s.phases 2).running_maximum) inner.1 ∙ sym maximum_is_30;
+          time = twenty (acting_maximum s.plan (runs s) 2 (s.phases 2).running_maximum) inner.1 ∙ sym maximum_is_20;
         }
 
-maxes_out_in_30 : is_maxed_out 2 (replay leaving (ticks (vehicle 1) 29 ++ called)) (vehicle 1) ≡ true
+maxes_out_in_20 : is_maxed_out 2 (replay leaving (ticks (vehicle 1) 19 ++ called)) (vehicle 1) ≡ true
 unfolding opened leaving
-maxes_out_in_30 = refl
+maxes_out_in_20 = refl
 
 -- a mistake: it is timed from the beginning of the green, and not from that of the conflict
-maximum_would_show_29 : left 30 ((replay leaving called).phases 2).timer ≡ 29
+maximum_would_show_19 : left 20 ((replay leaving called).phases 2).timer ≡ 19
 unfolding opened leaving
-maximum_would_show_29 = refl
+maximum_would_show_19 = refl
 
-not_maxed_in_29 : is_maxed_out 2 (replay leaving (ticks (vehicle 1) 28 ++ called)) (vehicle 1) ≡ false
+not_maxed_in_19 : is_maxed_out 2 (replay leaving (ticks (vehicle 1) 18 ++ called)) (vehicle 1) ≡ false
 unfolding opened leaving
-not_maxed_in_29 = refl
+not_maxed_in_19 = refl
