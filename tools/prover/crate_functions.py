@@ -1,5 +1,6 @@
 """The functions of a crate's files, as the prover names them, and where their proofs are."""
 import dataclasses
+import functools
 import pathlib
 import re
 from collections.abc import Iterator
@@ -130,7 +131,13 @@ def modules(texts: dict[Path, str]) -> dict[str, list[str]]:
     """The path of the module of each file, and of each type by its name."""
     paths = {path: path.removeprefix("src/").removesuffix(".rt").split("/") for path in texts}
     of_files = {path: [] if parts in (["lib"], ["main"]) else parts for path, parts in paths.items()}
-    return of_files | {found[1]: of_files[path] for path, text in texts.items() for found in TYPE.finditer(text)}
+    return of_files | {name: of_files[path] for path, text in texts.items() for name in types_in(text)}
+
+
+@functools.lru_cache(maxsize=None)
+def types_in(text: str) -> tuple[str, ...]:
+    """The names of the types of a file."""
+    return tuple(found[1] for found in TYPE.finditer(text))
 
 
 def proof_of(texts: dict[Path, str], function: Function) -> Path | None:

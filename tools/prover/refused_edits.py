@@ -2,8 +2,9 @@
 
 It needs the libraries that `rt ci` left in `crates/*/out/rlib`. The edits of a crate are put into one copy of it, and the
 prover is asked for the functions that they change, and for these alone. Of two edits of one function the second is made
-in a copy of the function, beside one more in which nothing is changed. Crates that do not stand on one another share a
-run: what the prover reads before its first function, of its logic and of all libraries, it then reads once for them all.
+in a copy of the function. Where another proof names the function's modules, or another edit changes a constant, one copy
+more has no change. Crates that do not stand on one another share a run: what the prover reads before its first function,
+of its logic and of all libraries, it then reads once for them all.
 
 An edit is refused if the prover names a goal of the very function that it edits, or of one that names the constant that
 it edits, itself or in the fields of its type: a goal that no search proved, or that the answer written for it does not
@@ -114,9 +115,10 @@ def grouped(edits: list[Edit]) -> list[list[Edit]]:
 
 
 def joined(groups: list[list[Edit]]) -> list[list[Edit]]:
-    """Groups of crates put together, so that no crate of a group uses another one of it."""
+    """Groups of crates put together, so that no crate of a group uses another one of it. Crates over the most libraries
+    come first: they share runs then, and each run reads all libraries of its crates."""
     made: list[list[Edit]] = []
-    for group in groups:
+    for group in sorted(groups, key=lambda it: len(it[0].crate.below()), reverse=True):
         for it in made:
             if len(it) + len(group) <= MOST and all(are_apart(group[0].crate, other.crate) for other in it):
                 it += group
@@ -175,10 +177,26 @@ def function_of(texts: dict[Path, str], edit: Edit) -> Function:
     return found
 
 
+def is_in_function(texts: dict[Path, str], change: Change) -> bool:
+    """Whether a change is in one function, and in nothing that others read, as a constant."""
+    text = texts.get(change.path, "")
+    return change.old in text and function_at(change.path, text, text.find(change.old) + len(change.old)) is not None
+
+
+def is_named(folder: str, texts: dict[Path, str], function: Function) -> bool:
+    """Whether another proof of the crate names the modules of a function's proof: a copy has modules of its own."""
+    proof = proof_of(texts, function) or ""
+    named = re.compile(rf"\b{re.escape(proof.replace('/', '.'))}\.")
+    others = (it for it in pathlib.Path(folder, "proofs").rglob("*.antt") if not it.is_relative_to(pathlib.Path(folder, proof)))
+    return any(named.search(it.read_text()) for it in others)
+
+
 def placed(folder: str, edits: list[Edit]) -> Iterator[Write]:
-    """What is written for these edits. The first of a function is made in it, and each further one in a copy behind it. One
-    copy more has no change: what the prover cannot show of that one shows nothing of the others."""
+    """What is written for these edits. The first of a function is made in it, and each further one in a copy behind it. Where
+    a copy can fail for another reason than its change, one copy more has none: what the prover cannot show of that one
+    shows nothing of the others."""
     texts, taken, seen = sources(folder), set(), set()
+    is_shared = any(not is_in_function(texts, change) for edit in edits for change in edit.changes)
     for number, edit in enumerate(edits):
         if not edit.functions & taken:
             taken |= edit.functions
@@ -188,7 +206,8 @@ def placed(folder: str, edits: list[Edit]) -> Iterator[Write]:
             continue
         function = function_of(texts, edit)
         made = [(edit.file, edit.changes, f"_again_{number}")]
-        made += [] if function in seen else [(unedited(edit.crate, function), (), "_again")]
+        if function not in seen and (is_shared or is_named(folder, texts, function)):
+            made.append((unedited(edit.crate, function), (), "_again"))
         seen.add(function)
         for reason, changes, word in made:
             for path, new in copied(folder, texts, function, changes, word):

@@ -6,7 +6,7 @@ a function which is not proved in that run, so that the prover refuses them ther
 turns the one callee, and the other is left out of the proof.
 
 The library and the program share a run. What is left out of a copy of a crate leaves all else on its lines, and no crate
-shares a run with one that it uses.
+shares a run with one that it uses. Where a copy can fail without its change, there is one more that has none.
 """
 import dataclasses
 import os
@@ -162,7 +162,30 @@ def test_crates_that_stand_on_one_another_have_runs_of_their_own() -> None:
     plan = Crate("plan", (types,))
     groups = [[refused_edits.Edit(it, pathlib.Path(it.name), (), frozenset(), False)] for it in (types, lines, plan)]
     runs = [[edit.crate for edit in group] for group in refused_edits.joined(groups)]
-    assert runs == [[types, lines], [plan]]
+    assert runs == [[plan, lines], [types]]
+
+
+def copies_without_a_change(folder: str, edits: list[refused_edits.Edit]) -> int:
+    """How many copies in which nothing is changed are made beside these edits."""
+    return len({it.reason for it in refused_edits.placed(folder, edits) if it.reason.parts[0] == "unedited"})
+
+
+def test_a_copy_that_is_in_doubt_has_one_without_a_change() -> None:
+    with tempfile.TemporaryDirectory() as room:
+        fill(pathlib.Path(room))
+        crate = kit.crates(pathlib.Path(room))["small"]
+        edits = [refused_edits.edit_of(crate, pathlib.Path(crate.folder, "must-fail", f"{it}.edit"))
+                 for it in ("doubles_the_next", "yields_too_little")]
+        assert copies_without_a_change(crate.folder, edits) == 0
+        proof = pathlib.Path(crate.folder, "proofs", "Lemmas.antt")
+        proof.parent.mkdir()
+        proof.write_text("use Rattle.small.proofs.double.Goals.{returns}\n")
+        assert copies_without_a_change(crate.folder, edits) == 1
+        proof.write_text("use Rattle.small.proofs.doubles.Goals.{returns}\n")
+        assert copies_without_a_change(crate.folder, edits) == 0
+        change = refused_edits.Change("src/lib.rt", "//! Small sums.", "//! Sums.")
+        shared = dataclasses.replace(edits[0], changes=(change,), functions=frozenset([("src/lib.rt", "next")]))
+        assert copies_without_a_change(crate.folder, [*edits, shared]) == 1
 
 
 def test_what_shows_nothing_is_told() -> None:
@@ -184,5 +207,6 @@ if __name__ == "__main__":
     kit.kit()
     test_what_is_left_out_moves_no_line()
     test_crates_that_stand_on_one_another_have_runs_of_their_own()
+    test_a_copy_that_is_in_doubt_has_one_without_a_change()
     test_what_shows_nothing_is_told()
     print("refused_edits.py tells what shows nothing")
