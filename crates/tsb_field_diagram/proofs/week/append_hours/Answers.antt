@@ -1,4 +1,3 @@
-use Rattle.std.proofs.Common.{◌∙◌}
 use Rattle.tsb_field_diagram.specs.Week.{hour_text, hours_text}
 use Rattle.tsb_field_diagram.proofs.CountLemmas.{count-more, count-end}
 use Rattle.tsb_field_diagram.proofs.WeekLemmas.{hours_from, hours-more, hours-none}

@@ -1,4 +1,4 @@
-use Rattle.std.proofs.Common.{◌<◌, arith, sym, ◌∙◌, inl, inr}
+use Rattle.std.proofs.Common.{◌<◌, arith, sym, ◌∙◌, inl, inr, rules}
 use Rattle.std.proofs.lemmas.Bool.{cases_lt}
 use Rattle.tsb_plan.specs.PlanOf.{plan_of}
 use Rattle.tsb_objects.proofs.TableLemmas.{no-arrow-behind}
@@ -13,3 +13,7 @@ returns c n =
           let behind : 16 < n = omega arith in
           c.loop-number.invariant.rest n above ∙ sym (no-arrow-behind c.args.plan.now.values n behind)
     ]
+
+pub loop-number-preserved : goal.loop-number-preserved
+unfolding plan_of
+loop-number-preserved c = search rules fits 300

@@ -16,3 +16,11 @@ tick_before-requires-clause-below c =
     let last : p ≤ 16 = search rules in
     instants-small c.args.plan.now.values c.args.plan.now.ranged n p c.instant_at.result used
     (c.instant_at.ensures ∙ c.requires.told n p from within first last used)
+
+pub returns-in-None : goal.returns-in-None
+unfolding plan_of
+returns-in-None c = search rules fits 100
+
+pub returns-in-Some : goal.returns-in-Some
+unfolding plan_of
+returns-in-Some c = search rules fits 100

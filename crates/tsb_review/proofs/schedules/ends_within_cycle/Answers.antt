@@ -1,4 +1,4 @@
-use Rattle.std.proofs.Common.{◌≡◌, ◌∙◌, ℕ, ◌==◌, nat_le, not, ◌&&◌, sym, ap}
+use Rattle.std.proofs.Common.{◌∙◌, ℕ, ◌==◌, nat_le, not, ◌&&◌, sym, ap}
 use Rattle.tsb_plan.specs.PlanOf.{plan_of}
 use Rattle.tsb_review.proofs.ScheduleLemmas.{no-number, some-number, soon-none, soon-some}
 use Rattle.tsb_review.proofs.schedules.ends_within_cycle.Goals as goal

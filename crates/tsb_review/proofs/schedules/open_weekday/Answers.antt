@@ -1,5 +1,4 @@
-use Rattle.std.proofs.Common.{◌≡◌, ◌∙◌, ℕ, Bool, true, false, not, ◌+◌, ◌-◌, sym, ap, arith, is_some}
-use Rattle.tsb_types.specs.Lists.{first, run_from}
+use Rattle.std.proofs.Common.{◌∙◌, ℕ, Bool, true, false, ◌-◌, sym, arith}
 use Rattle.tsb_plan.specs.PlanOf.{plan_of}
 use Rattle.tsb_review.specs.Schedules.{is_open}
 use Rattle.tsb_review.proofs.LoopLemmas.{first-end, first-found, first-more}

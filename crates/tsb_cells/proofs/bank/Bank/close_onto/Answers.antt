@@ -1,4 +1,4 @@
-use Rattle.std.proofs.Common.{arith, ◌≡◌, ℕ, ◌+◌, ◌-◌, ◌*◌, ◌%◌, ◌^◌, ◌≤◌, length, refl, sym, ◌∙◌, ap, List, [], ◌++◌, w64, bit_and}
+use Rattle.std.proofs.Common.{arith, ◌≡◌, ℕ, ◌+◌, ◌-◌, ◌*◌, ◌%◌, ◌^◌, ◌≤◌, length, refl, sym, ◌∙◌, ap, List, [], ◌++◌, w64, bit_and, rules}
 use Rattle.std.specs.Int.{trailing_zeros}
 use Rattle.std.proofs.lemmas.List.{append-nil, length-append}
 use Rattle.tsb_cells.specs.Blocks.{block_changes, kept_in}
@@ -62,3 +62,6 @@ returns-clause-len g c =
     let most : length es ≤ length kept = length-diff kept c.args.self.now.cells in
     let full : length kept ≡ g.row.N = c.args.self.now.kept_full in
     omega (arith, lens, most, full)
+
+pub returns-clause-closed : goal.returns-clause-closed
+returns-clause-closed g c = search rules fits 100

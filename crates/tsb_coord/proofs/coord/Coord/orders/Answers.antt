@@ -1,8 +1,8 @@
-use Rattle.std.proofs.Common.{◌≡◌, ℕ, Bool, Option, Some, sym, ap, ◌∙◌}
+use Rattle.std.proofs.Common.{◌≡◌, ℕ, Option, Some, sym, ap, ◌∙◌}
 use Rattle.tsb_objects.specs.Checked.{checked_plan}
 use Rattle.tsb_objects.specs.tsb_plan.Plan.{Plan}
 use Rattle.tsb_objects.specs.tsb_plan.Running.{running, sequence_in_effect, is_coordinated_now, is_omitted_now}
-use Rattle.tsb_coord.specs.Cells.{pattern_in, correction_in}
+use Rattle.tsb_coord.specs.Cells.{pattern_in}
 use Rattle.tsb_coord.specs.Correction.{Correction, forces, lets_walk_again}
 use Rattle.tsb_coord.specs.Layer.{cells_of}
 use Rattle.tsb_coord.proofs.CorrectionLemmas.{selected_runs}

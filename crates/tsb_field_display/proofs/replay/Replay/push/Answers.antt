@@ -1,4 +1,4 @@
-use Rattle.std.proofs.Common.{◌≡◌, ◌∙◌, List, [], ◌∷◌, ◌++◌, true, false, Bool, take, if◌then◌else◌, ap, sym, refl, append-nil, Result, Ok, Err}
+use Rattle.std.proofs.Common.{◌≡◌, ◌∙◌, List, [], ◌∷◌, ◌++◌, true, false, Bool, take, if◌then◌else◌, ap, sym, refl, append-nil, Result, Ok, Err, rules}
 use Rattle.std.specs.Result.{OnErr}
 use Rattle.tsb_field_display.specs.declared.shown.Shown.{Shown}
 use Rattle.tsb_field_display.specs.declared.replay.Replay.{Replay}
@@ -52,3 +52,6 @@ returns-clause-ok c lines held =
         last = sym (last-further lines c.args.shown);
       }
     ]
+
+pub returns-in_err-push-clause-last : goal.returns-in_err-push-clause-last
+returns-in_err-push-clause-last c = search rules fits 100

@@ -1,8 +1,8 @@
-use Rattle.std.proofs.Common.{◌≡◌, ℕ, ◌+◌, List, ◌++◌, length, min, take, ap, subst, sym, ◌∙◌, arith, length-take, Ok, Err}
+use Rattle.std.proofs.Common.{◌≡◌, ℕ, ◌+◌, ◌++◌, length, min, take, ap, ◌∙◌, arith, length-take, Ok, Err}
 use Rattle.std.proofs.lemmas.Bool.{false≢true}
 use Rattle.std.specs.declared.result.Result.{Result}
 use Rattle.std.specs.Result.{IsOk, OnOk}
-use Rattle.tsb_lines.specs.Lines.{HasNoFeed, kept}
+use Rattle.tsb_lines.specs.Lines.{kept}
 use Rattle.tsb_lines.proofs.LineLemmas.{feedless-both}
 use Rattle.tsb_lines.proofs.KeptLemmas.{kept-onto, feedless-kept}
 use Rattle.tsb_lines.proofs.kept.KeptLine.extend.Given.{Over}

@@ -1,4 +1,4 @@
-use Rattle.std.proofs.Common.{◌≡◌, ℕ, List, ◌++◌, length, min, take, ap, ◌∙◌, arith, length-take}
+use Rattle.std.proofs.Common.{◌≡◌, ℕ, ◌++◌, length, min, take, ap, ◌∙◌, arith, length-take}
 use Rattle.tsb_lines.specs.ShortLines.{fitting}
 use Rattle.tsb_lines.proofs.ShortLemmas.{on-ok, put}
 use Rattle.tsb_lines.proofs.short.ShortLine.push.Goals as goal

@@ -1,4 +1,4 @@
-use Rattle.std.proofs.Common.{◌∙◌, ◌++◌, List, ℕ, codes, subst}
+use Rattle.std.proofs.Common.{◌∙◌, ◌++◌, List, ℕ, codes, subst, rules}
 use Rattle.tsb_lines.specs.Seen.{Tells}
 use Rattle.tsb_program.proofs.streams.Streams.fail_file.Goals as goal
 
@@ -12,3 +12,6 @@ returns-in-Read g c =
             (c.as_bytes.ensures.bytes ∙ c.file_line-second.ensures) c.tell_both.ensures.lines.1,
       ),
     )
+
+pub returns-in-Memory : goal.returns-in-Memory
+returns-in-Memory g c = search rules fits 100

@@ -1,4 +1,4 @@
-use Rattle.std.proofs.Common.{◌≡◌, OnErr, OnOk, inl, refl, subst, sym}
+use Rattle.std.proofs.Common.{◌≡◌, OnErr, OnOk, inl, refl, subst, sym, rules}
 use Rattle.tsb_bench.specs.Held.{state_of, whole}
 use Rattle.tsb_bench.specs.tsb_step.Step.{step}
 use Rattle.tsb_text.specs.Rows.{rows_in}
@@ -23,3 +23,9 @@ returns-in-Plain-clause-still c =
 pub returns-in-Plain-clause-state : goal.returns-in-Plain-clause-state
 returns-in-Plain-clause-state c =
     subst (λ (v : OnCourse). OnOk c.apply.result (state_of c.apply.new.self ≡ step (state_of v.bench) c.args.input)) c.self.view_is c.apply.ensures.state
+
+pub returns-in-Keeping-clause-took : goal.returns-in-Keeping-clause-took
+returns-in-Keeping-clause-took c = search rules fits 100
+
+pub returns-in-Recording-clause-took : goal.returns-in-Recording-clause-took
+returns-in-Recording-clause-took c = search rules fits 100

@@ -1,0 +1,5 @@
+use Rattle.std.proofs.Common.{rules}
+use Rattle.tsb_cells.proofs.bank.Bank.block.Goals as goal
+
+pub returns : goal.returns
+returns g c = search rules fits 100

@@ -1,0 +1,6 @@
+use Rattle.std.proofs.Common.{arith}
+use Rattle.std.proofs.lemmas.Grind.{common_steps}
+use Rattle.tsb_field_streams.proofs.filter.Filter.note_device.Goals as goal
+
+pub returns-then-is_none : goal.returns-then-is_none
+returns-then-is_none c = grind (arith, common_steps)

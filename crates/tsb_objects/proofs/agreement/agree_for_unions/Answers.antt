@@ -1,0 +1,8 @@
+use Rattle.std.proofs.Common.{arith}
+use Rattle.std.proofs.lemmas.Grind.{common_steps}
+use Rattle.tsb_plan.specs.PlanOf.{plan_of}
+use Rattle.tsb_objects.proofs.agreement.agree_for_unions.Goals as goal
+
+pub returns-then-agree_between-2 : goal.returns-then-agree_between-2
+unfolding plan_of
+returns-then-agree_between-2 c = grind (arith, common_steps)

@@ -1,0 +1,5 @@
+use Rattle.std.proofs.Common.{rules}
+use Rattle.tsb_words.proofs.field_files.card_with.Goals as goal
+
+pub returns : goal.returns
+returns c = search rules fits 100
