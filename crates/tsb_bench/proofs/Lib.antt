@@ -8,7 +8,6 @@ pub mod ShownLemmas
 pub mod ValueLemmas
 pub mod SessionLemmas
 pub mod WatchedLemmas
-pub mod MinuteLemmas
 pub mod RoomLemmas
 pub mod TellingLemmas
 pub mod Examples

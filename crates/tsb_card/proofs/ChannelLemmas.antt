@@ -1,5 +1,5 @@
 -- Rows of a card, channel by channel, and the phases of a pair.
-use Rattle.std.proofs.Common.{zero, suc, get_or, length, replicate, set, ◌≡◌, ◌≢◌, ℕ, ◌+◌, ◌<◌, ◌≤◌, ◌∙◌, Bool, true, false, ◌&&◌, ◌||◌, nat_le, nat_lt, List, [], ◌∷◌, refl, ap, arith, sym, inl, inr}
+use Rattle.std.proofs.Common.{zero, suc, get_or, length, replicate, set, ◌≡◌, ℕ, ◌+◌, ◌<◌, ◌≤◌, ◌∙◌, Bool, true, false, ◌&&◌, ◌||◌, nat_le, List, [], ◌∷◌, refl, ap, arith, sym, inl, inr}
 use Rattle.std.specs.List.{list_any}
 use Rattle.std.proofs.lemmas.Bool.{and_parts, cases_eq, cases_lt, le-leb, le-ltb, lt-leb, lt-ltb}
 use Rattle.std.proofs.lemmas.Grind.{get_or-set_at}
@@ -12,40 +12,6 @@ use Rattle.tsb_card.specs.declared.card.Card.{Card}
 use Rattle.tsb_card.specs.Card.{permits}
 use Rattle.tsb_card.specs.Pairs.{IsByPhases, channel, is_listed, is_lit_beside, is_pair, is_permissive, lights, meets}
 
--- between two numbers next to each other there is none
-pub none-between : (lower b : ℕ) (pair : Bool) → ((nat_lt lower b && nat_lt b (lower + 1)) && pair) ≡ false
-none-between lower b pair = elim (cases_lt lower b) [
-  | inl above ↦ (let e : nat_lt b (lower + 1) ≡ false = le-ltb b (lower + 1) (omega (arith, above)) in rw (lt-ltb lower b above, e) refl)
-  | inr below ↦ rw (le-ltb lower b below) refl
-]
-
--- below the next number is what is below this one, and this one
-lt-next : (b n : ℕ) → b ≢ n → nat_lt b (n + 1) ≡ nat_lt b n
-lt-next b n apart = elim (cases_lt b n) [
-  | inl below ↦ (let e : nat_lt b (n + 1) ≡ true = lt-ltb b (n + 1) (omega (arith, below)) in e ∙ sym (lt-ltb b n below))
-  | inr above ↦ (let e : nat_lt b (n + 1) ≡ false = le-ltb b (n + 1) (omega (arith, above, apart)) in e ∙ sym (le-ltb b n above))
-]
-
--- a row with one more channel
-pub row-more : (lower n : ℕ) (pair old new : ℕ → Bool) → lower < n → new n ≡ pair n → ((b : ℕ) → b ≢ n → new b ≡ old b)
-    → ((b : ℕ) → old b ≡ ((nat_lt lower b && nat_lt b n) && pair b)) → (b : ℕ) → new b ≡ ((nat_lt lower b && nat_lt b (n + 1)) && pair b)
-row-more lower n pair old new above here others so b = elim (cases_eq b n) [
-  | inl same ↦ (let e : nat_lt n (n + 1) ≡ true = lt-ltb n (n + 1) (omega arith) in rw same (here ∙ rw (lt-ltb lower n above, e) refl))
-  | inr apart ↦ others b apart ∙ so b ∙ ap (λ (t : Bool). (nat_lt lower b && t) && pair b) (sym (lt-next b n apart))
-]
-
--- below 17 is up to 16
-lt-seventeen : (b n : ℕ) → 17 ≤ n → n ≤ 17 → nat_lt b n ≡ nat_le b 16
-lt-seventeen b n from to = elim (cases_lt b n) [
-  | inl below ↦ lt-ltb b n below ∙ (let e : nat_le b 16 ≡ true = le-leb b 16 (omega (arith, below, to)) in sym e)
-  | inr above ↦ le-ltb b n above ∙ (let e : nat_le b 16 ≡ false = lt-leb b 16 (omega (arith, above, from)) in sym e)
-]
-
--- a row with all channels
-pub row-all : (lower n b : ℕ) (pair : Bool) → 1 ≤ lower → 17 ≤ n → n ≤ 17 → ((nat_lt lower b && nat_lt b n) && pair) ≡ (is_listed lower b && pair)
-row-all lower n b pair positive from to = rw (le-leb 1 lower positive, lt-seventeen b n from to) refl
-
--- a channel beyond 16 has no row
 pub beyond : (k b : ℕ) (pair : Bool) → 16 ≤ k → (is_listed (suc k) b && pair) ≡ false
 beyond k b pair past = elim (cases_lt (suc k) b) [
   | inl above ↦

@@ -91,14 +91,3 @@ last-line old new n text rest line le only so step =
     let last : Reads new (pairs_from (n + 1) []) (pairs_from 1 (lines_of text)) = step [] (pairs_from 1 (lines_of text)) (rw only at so) in
     let all = last.pairs [] (no-lines (n + 1)) in
     (all.0, within-limit text le ∙ all.1, λ a b. sym (all.2 a b ∙ or-false (permits new a b)))
-
--- a line with more behind it
-pub next-line : (old new : Card) (n : ℕ) (text rest line : List ℕ) (lines : List (List ℕ)) → lines_of rest ≡ line ∷ lines
-    → Reads old (pairs_from n (lines_of rest)) (pairs_from 1 (lines_of text)) → Stepped (Ok new) old n line
-    → Reads new (pairs_from (n + 1) lines) (pairs_from 1 (lines_of text))
-next-line old new n text rest line lines split so step = step lines (pairs_from 1 (lines_of text)) (rw split at so)
-
--- a line that is a fault
-pub fault-line : (old : Card) (n : ℕ) (text rest line : List ℕ) (lines : List (List ℕ)) (e : CardFault) → length text ≤ 65536 → lines_of rest ≡ line ∷ lines
-    → Reads old (pairs_from n (lines_of rest)) (pairs_from 1 (lines_of text)) → Stepped (Err e) old n line → Gives (Err e) (pairs_of text)
-fault-line old n text rest line lines e le split so step = within-limit text le ∙ so.fault e (ap (pairs_from n) split ∙ step lines)

@@ -1,21 +1,7 @@
 -- What one write leaves of the lists and columns of a row.
-use Rattle.std.proofs.Common.{◌≡◌, ◌≢◌, ℕ, ◌+◌, ◌*◌, ◌%◌, ◌≤◌, ◌==◌, Bool, if◌then◌else◌, List, slice_index, sym, ap, arith, inl, inr}
+use Rattle.std.proofs.Common.{◌≡◌, ◌≢◌, ℕ, ◌+◌, ◌*◌, ◌≤◌, ◌==◌, if◌then◌else◌, List, slice_index, sym, arith, inl, inr}
 use Rattle.std.proofs.lemmas.Bool.Decides.{eqb_tells}
-use Rattle.tsb_types.specs.Sets.{names, list_in}
 use Rattle.tsb_cells.specs.Lists.{Elsewhere}
-
--- a list that is not written
-pub bit-kept : (old new : List ℕ) (at j p : ℕ) → j ≢ at → Elsewhere at old new → names (list_in new j) p ≡ names (list_in old j) p
-bit-kept old new at j p apart same = ap (λ (cell : ℕ). names (cell % 65536) p) (same j apart)
-
--- each list where list k is written
-pub bit-put : (old new : List ℕ) (k j p : ℕ) (on : Bool) → names (list_in new k) p ≡ on → Elsewhere k old new →
-    names (list_in new j) p ≡ (if k == j then on else names (list_in old j) p)
-bit-put old new k j p on here same =
-    elim (eqb_tells k j) [
-      | inl is ↦ rw (is.0, sym is.1) here
-      | inr other ↦ rw other.0 (bit-kept old new k j p (λ e. other.1 (sym e)) same)
-    ]
 
 -- each column of a number where that of kind k is written; the first column stands after the cell o
 pub cell-put : (o : ℕ) (old new : List ℕ) (k j p value : ℕ) → slice_index new (o + 16 * k + p) ≡ value → Elsewhere (o + 16 * k + p) old new →

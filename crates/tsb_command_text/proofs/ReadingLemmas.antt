@@ -60,10 +60,6 @@ tests : (line : List ℕ) → live_reading line ≡ asked (nat_lt 200 (length li
 unfolding live_reading
 tests line = refl
 
-abbrev IsBad : LiveReading → Type 0
-IsBad Bad = Unit {0}
-IsBad x = ⊥
-
 -- the command of `tsb run` that is asked, here and there
 abbrev session_of : LiveReading → Option Command
 session_of (Ask (Session c)) = Some c

@@ -44,13 +44,6 @@ other-length : (line : List ℕ) → (length line == 30) ≡ false → inputs_of
 unfolding inputs_of
 other-length line off = rw off refl
 
--- and has 30 bytes
-pub row-length : (line : List ℕ) (r : Row) → inputs_of line ≡ Some r → length line ≡ 30
-row-length line r e = elim (eqb_tells (length line) 30) [
-  | inl z ↦ z.1
-  | inr off ↦ absurd (subst IsNone (sym (other-length line off.0) ∙ e) tt)
-]
-
 -- ## Rows by lists
 
 -- the words of a row that begin with none of the letters of its kinds

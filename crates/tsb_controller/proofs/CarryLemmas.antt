@@ -1,6 +1,6 @@
 -- The moves of the rings on the phases, one call after the other.
-use Rattle.std.proofs.Common.{◌≡◌, ℕ, ◌≤◌, ◌==◌, Bool, true, false, ◌||◌, if◌then◌else◌, List, Option, Some, refl, ap, ◌∙◌, inl, inr, subst}
-use Rattle.std.proofs.lemmas.Bool.{cases_Bool, eqb-true}
+use Rattle.std.proofs.Common.{◌≡◌, ℕ, ◌≤◌, Bool, true, false, ◌||◌, if◌then◌else◌, List, Option, refl, ap, ◌∙◌, inl, inr}
+use Rattle.std.proofs.lemmas.Bool.{cases_Bool}
 use Rattle.tsb_step.specs.tsb_types.declared.flow.Moves.{Moves}
 use Rattle.tsb_step.specs.tsb_types.declared.flow.Timing.{Timing}
 use Rattle.tsb_step.specs.tsb_types.declared.interval.Interval.TheVariants.{Yellow}
@@ -10,35 +10,9 @@ use Rattle.tsb_step.specs.tsb_plan.Plan.{Plan}
 use Rattle.tsb_phase.specs.declared.conditions.Conditions.{Conditions}
 use Rattle.tsb_phase.specs.Phase.{Phase, Given}
 use Rattle.tsb_phase.specs.Moves.{ended, cleared, started_by, once_ended, once_cleared, once_started}
-use Rattle.tsb_phase.specs.Promises.{given_of, IsEnded, KeepsOthers, IsClearing, IsCleared, IsStarted}
+use Rattle.tsb_phase.specs.Promises.{given_of, IsClearing}
 use Rattle.tsb_phase.specs.Cells.{phase_in, row_in}
 use Rattle.tsb_controller.specs.Carried.{IsEndedIf, IsClearedIf, IsStartedIf, AreApart, IsCarriedOut, moved_by}
-use Rattle.tsb_step.proofs.OnceLemmas.{equal_turned}
-
-pub ended-some : (p now : ℕ) (timing : Timing) (c : Conditions) (plan : Plan) (old new : List ℕ) →
-    IsEnded p now timing c plan old new → KeepsOthers p old new → IsEndedIf (Some p) now timing c plan old new
-ended-some p now timing c plan old new done others q from to =
-    elim (cases_Bool (p == q)) [
-      | inl same ↦ (let e : p ≡ q = eqb-true p q same in
-          rw same (subst (λ (x : ℕ). IsEnded x now timing c plan old new) e done))
-      | inr apart ↦ rw apart (others now q from to (equal_turned q p ∙ apart))
-    ]
-
-pub cleared-some : (p : ℕ) (old new : List ℕ) → IsCleared p old new → KeepsOthers p old new → IsClearedIf (Some p) old new
-cleared-some p old new done others now q from to =
-    elim (cases_Bool (p == q)) [
-      | inl same ↦ (let e : p ≡ q = eqb-true p q same in rw same (subst (λ (x : ℕ). IsCleared x old new) e done now))
-      | inr apart ↦ rw apart (others now q from to (equal_turned q p ∙ apart))
-    ]
-
-pub started-some : (p now : ℕ) (c : Conditions) (plan : Plan) (old new : List ℕ) →
-    IsStarted p now c plan old new → KeepsOthers p old new → IsStartedIf (Some p) now c plan old new
-started-some p now c plan old new done others q from to =
-    elim (cases_Bool (p == q)) [
-      | inl same ↦ (let e : p ≡ q = eqb-true p q same in
-          rw same (subst (λ (x : ℕ). IsStarted x now c plan old new) e done))
-      | inr apart ↦ rw apart (others now q from to (equal_turned q p ∙ apart))
-    ]
 
 -- two calls, of phases that are not the same
 twice : {A : Type 0} (a b : Bool) (f : A → A) (x : A) → (a ≡ true → b ≡ true → ⊥) →

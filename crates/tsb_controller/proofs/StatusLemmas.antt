@@ -1,5 +1,5 @@
 -- The status of a phase and of what its green depends on, and of a ring, is what the state has.
-use Rattle.std.proofs.Common.{◌≡◌, ℕ, ◌≤◌, ◌==◌, Bool, true, false, not, ◌&&◌, if◌then◌else◌, [], ◌∷◌, get_or, Option, Some, None, is_some, option_map, IfSome, refl, sym, subst, ap, ap₂, arith, ◌∙◌, inl, inr}
+use Rattle.std.proofs.Common.{◌≡◌, ℕ, ◌≤◌, ◌==◌, Bool, true, false, ◌&&◌, if◌then◌else◌, [], ◌∷◌, get_or, Option, Some, None, is_some, option_map, IfSome, refl, sym, subst, ap, ap₂, arith, ◌∙◌, inl, inr}
 use Rattle.std.proofs.lemmas.Bool.{cases_Bool}
 use Rattle.std.proofs.lemmas.Bool.Decides.{nat_tests}
 use Rattle.tsb_step.specs.tsb_types.declared.phase_set.PhaseSet.{PhaseSet}
@@ -19,10 +19,8 @@ use Rattle.tsb_phase.specs.declared.told.PhaseTimes.{PhaseTimes}
 use Rattle.tsb_phase.specs.Cells.{phase_in}
 use Rattle.tsb_phase.specs.Promises.{IsTold, TellsPhase}
 use Rattle.tsb_preempt.specs.Cells.{preempts_in}
-use Rattle.tsb_preempt.specs.Preempts.{is_outside, wanted_by}
 use Rattle.tsb_preempt.specs.Promises.{stage_of, TellsStage}
-use Rattle.tsb_preempt.specs.Service.{Service, stage_phases}
-use Rattle.tsb_ring.specs.Cells.{rings_in}
+use Rattle.tsb_preempt.specs.Service.{Service}
 use Rattle.tsb_overlap.specs.Cells.{overlap_in}
 use Rattle.tsb_overlap.specs.Overlap.{holds as holds_by}
 use Rattle.tsb_overlap.specs.Promises.{TellsHolder, with_left}
@@ -48,32 +46,13 @@ use Rattle.tsb_controller.specs.declared.found.RingTold.{RingTold}
 use Rattle.tsb_controller.specs.declared.status.Beside.{Beside as Told}
 use Rattle.tsb_controller.specs.Rows.{Rows, Beside, state_of}
 use Rattle.tsb_controller.proofs.ReaderLemmas.{staged}
-use Rattle.tsb_controller.specs.StatusPromises.{IsToldRing, StandsBeside, TellsGreenFound, TellsInService, TellsNext, TellsPhaseFound, TellsRing, TellsRingFound, TellsServed, TellsUnwanted, force_off_by, ring_status_by, shown_of}
+use Rattle.tsb_controller.specs.StatusPromises.{IsToldRing, StandsBeside, TellsGreenFound, TellsInService, TellsNext, TellsPhaseFound, TellsRingFound, TellsUnwanted, force_off_by, ring_status_by, shown_of}
 
 -- ## A phase
 
 numbered : (o : Option Service) → option_map (λ x. x.0) (stage_of o) ≡ service_number o
 numbered None = refl
 numbered (Some x) = refl
-
-pub none-unwanted : (plan : Plan) (rows : Rows) (p : ℕ) (stage : Option (ℕ × Stage)) → TellsStage rows.preempts stage → stage ≡ None → TellsUnwanted plan rows p false
-none-unwanted plan rows p stage told e now b same =
-    go (preempts_in (clock_at now b.trip) rows.preempts).service (sym (told (clock_at now b.trip)) ∙ e)
-  where
-    go : (o : Option Service) → stage_of o ≡ None → false ≡ is_outside (wanted_by b.plan o) p
-    go None h = refl
-    go (Some x) h = absurd cc
-
-pub some-unwanted : (plan : Plan) (rows : Rows) (p n : ℕ) (k : Stage) (stage : Option (ℕ × Stage)) (wanted : Bool) → TellsStage rows.preempts stage → stage ≡ Some (n, k) →
-    wanted ≡ stage_phases plan n k p → TellsUnwanted plan rows p (not wanted)
-some-unwanted plan rows p n k stage wanted told e w now b same =
-    go (preempts_in (clock_at now b.trip) rows.preempts).service (sym (told (clock_at now b.trip)) ∙ e)
-  where
-    go : (o : Option Service) → stage_of o ≡ Some (n, k) → not wanted ≡ is_outside (wanted_by b.plan o) p
-    go None h = absurd cc
-    go (Some x) h =
-        let both : (x.preempt, x.stage) ≡ (n, k) = cc in
-        ap not (w ∙ ap (λ (y : Plan). stage_phases y n k p) (sym same) ∙ ap (λ (y : ℕ × Stage). stage_phases b.plan y.0 y.1 p) (sym both))
 
 pub green-found : (plan : Plan) (rows : Rows) (p : ℕ) (found : GreenFound) (stage : Option (ℕ × Stage)) → 1 ≤ p → p ≤ 16 →
     found.count ≡ (memories_in rows.calls).count p → found.runs ≡ running plan (pattern_in rows.pattern) →
@@ -156,18 +135,11 @@ served-from s (Some q) (Some x) y found is phase =
     let known : is_phase x.phase ≡ true = subst (λ z. IfSome z (λ (a : Served). is_phase a.phase ≡ true)) is phase in
     subst (IsServed s (Some q)) (sym is) (served-are-found s q x (subst (λ p. is_phase p ≡ true) found.phase known) found)
 
-pub next-none : (clock : ℕ) (plan : Plan) (rows : Rows) → TellsNext clock plan rows None None
-next-none clock plan rows now b same at = tt
-
 pub next-some : (clock : ℕ) (plan : Plan) (rows : Rows) (p : ℕ) (times : PhaseTimes) (x : Next) → TellsPhase clock rows.phases p times → x ≡ next_as plan p times →
     is_phase p ≡ true → TellsNext clock plan rows (Some p) (Some x)
 next-some clock plan rows p times x told is phase now b same at =
     subst (λ y. IsNext (state_of now b rows) (Some p) (Some y)) (sym (is ∙ ap (λ (y : Plan). next_as y p times) (sym same)))
     (next-are-found (state_of now b rows) p times phase (subst (λ t. IsTold (phase_in t rows.phases p) times) (sym at) told))
-
-pub ring-told : (clock : ℕ) (plan : Plan) (rows : Rows) (r : ℕ) (x : Option PhaseFound) (next : Option ℕ) → TellsServed clock plan rows r x →
-    next ≡ (rings_in rows.rings).commitment (ring_numbered r) → TellsRing clock plan rows r (record { served = x; next = next })
-ring-told clock plan rows r x next found commits now b same at = record { served = found now b same at; next = commits }
 
 pub ring-found : (clock : ℕ) (plan : Plan) (rows : Rows) (x : RingTold) (y : Option Served) (z : Option Next) → y ≡ option_map (served_as plan) x.served →
     IfSome y (λ a. is_phase a.phase ≡ true) → TellsNext clock plan rows x.next z → TellsRingFound clock plan rows x (record { served = y; next = z })

@@ -51,7 +51,7 @@ use Rattle.tsb_ring.specs.Cells.{rings_in}
 use Rattle.tsb_ring.specs.Looks as ring_looks
 use Rattle.tsb_ring.specs.Looks.{AgreeOnTargets}
 use Rattle.tsb_ring.specs.Moves as ring_moves
-use Rattle.tsb_ring.specs.Moves.{is_ended, is_cleared, is_started}
+use Rattle.tsb_ring.specs.Moves.{is_ended, is_started}
 use Rattle.tsb_ring.specs.Next as rings_next
 use Rattle.tsb_ring.specs.Promises as rings
 use Rattle.tsb_ring.specs.GivenUp.{given_up}
@@ -75,7 +75,7 @@ use Rattle.tsb_preempt.proofs.OwnLemmas.{orders-as-next, ticks-as-next}
 use Rattle.tsb_transact.specs.Desk.{Desk}
 use Rattle.tsb_step.specs.State.{State, interval}
 use Rattle.tsb_step.specs.Tick as tick
-use Rattle.tsb_step.specs.Tick.{preempts_given, calls_given, phases_given, rings_given, new_detectors, set, callable, conflict, pedestrian_call, ready, over, held, lets_go, reverted, gapped, walks_again, service, moves, moved, done, after_moves, after_rings, gives_up, new_rings, overlaps_given, next}
+use Rattle.tsb_step.specs.Tick.{preempts_given, calls_given, phases_given, rings_given, new_detectors, set, callable, conflict, pedestrian_call, ready, over, held, lets_go, reverted, gapped, walks_again, service, moves, moved, done, after_moves, gives_up, new_rings, overlaps_given, next}
 use Rattle.tsb_step.specs.Signs.{is_lasting, shown as shown_of}
 use Rattle.tsb_overlap.specs.Cells.{omitted_in, overlap_in}
 use Rattle.tsb_overlap.specs.Overlap as overlap_words

@@ -1,18 +1,13 @@
 -- What the status lets phases wait for is what they wait for in the state.
-use Rattle.std.proofs.Common.{◌≡◌, ℕ, ◌==◌, Bool, true, false, Option, Some, None, is_some, refl, sym, subst, ap, ◌∙◌}
-use Rattle.tsb_step.specs.tsb_types.declared.phase_set.PhaseSet.{PhaseSet}
-use Rattle.tsb_step.specs.tsb_types.declared.stage.Stage.{Stage}
-use Rattle.tsb_step.specs.tsb_types.Sets.{has, is_phase}
+use Rattle.std.proofs.Common.{◌≡◌, ℕ, ◌==◌, Bool, true, false, Option, Some, is_some, refl, sym, subst, ap, ◌∙◌}
+use Rattle.tsb_step.specs.tsb_types.Sets.{is_phase}
 use Rattle.tsb_step.specs.tsb_plan.Plan.{Plan, ring_of}
 use Rattle.tsb_step.specs.tsb_plan.Running.{is_omitted_now, running}
 use Rattle.tsb_coord.specs.Cells.{pattern_in}
 use Rattle.tsb_phase.specs.declared.told.PhaseTimes.{PhaseTimes}
 use Rattle.tsb_phase.specs.Cells.{phase_in}
 use Rattle.tsb_phase.specs.Promises.{IsTold, TellsPhase}
-use Rattle.tsb_preempt.specs.Cells.{preempts_in}
-use Rattle.tsb_preempt.specs.Promises.{stage_of, TellsStage}
 use Rattle.tsb_preempt.specs.Service as preempts
-use Rattle.tsb_preempt.specs.Service.{stage_phases}
 use Rattle.tsb_ring.specs.Cells.{rings_in}
 use Rattle.tsb_ring.specs.Rings.{Ring1, Ring2, other, own_ring}
 use Rattle.tsb_step.specs.declared.waits.Wait.{Wait}
@@ -23,7 +18,7 @@ use Rattle.tsb_status.specs.declared.found.Service.{Service}
 use Rattle.tsb_status.specs.declared.found.Waiting.{Waiting}
 use Rattle.tsb_status.specs.Told.{waiting_as}
 use Rattle.tsb_status.specs.WaitBy.{wait_by}
-use Rattle.tsb_status.specs.WaitFound.{IsAround, IsInService, IsRing, IsWaiting}
+use Rattle.tsb_status.specs.WaitFound.{IsAround, IsRing, IsWaiting}
 use Rattle.tsb_status.proofs.ToldLemmas.{waiting-are-found}
 use Rattle.tsb_status.proofs.WaitFoundLemmas.{waits-are-found}
 use Rattle.tsb_controller.specs.declared.waits.WaitsFound.{WaitsFound}
@@ -31,28 +26,6 @@ use Rattle.tsb_controller.specs.Rows.{Rows, Beside, state_of}
 use Rattle.tsb_controller.specs.StatusPromises.{TellsAround, TellsService, TellsWait}
 
 -- ## What holds of all phases
-
-pub no-service : (plan : Plan) (rows : Rows) (stage : Option (ℕ × Stage)) → TellsStage rows.preempts stage → stage ≡ None → TellsService plan rows None
-no-service plan rows stage told e now b p same =
-    go (preempts_in (clock_at now b.trip) rows.preempts).service (sym (told (clock_at now b.trip)) ∙ e)
-  where
-    go : (o : Option preempts.Service) → stage_of o ≡ None → IsInService (state_of now b rows) p o None
-    go None h = tt
-    go (Some x) h = absurd cc
-
-pub in-service : (plan : Plan) (rows : Rows) (n : ℕ) (k : Stage) (stage : Option (ℕ × Stage)) (phases : PhaseSet) → TellsStage rows.preempts stage → stage ≡ Some (n, k) →
-    ((p : ℕ) → has phases p ≡ stage_phases plan n k p) → TellsService plan rows (Some (record { preempt = n; phases = phases }))
-in-service plan rows n k stage phases told e is now b p same =
-    go (preempts_in (clock_at now b.trip) rows.preempts).service (sym (told (clock_at now b.trip)) ∙ e)
-  where
-    go : (o : Option preempts.Service) → stage_of o ≡ Some (n, k) → IsInService (state_of now b rows) p o (Some (record { preempt = n; phases = phases }))
-    go None h = absurd cc
-    go (Some x) h =
-        let both : (x.preempt, x.stage) ≡ (n, k) = cc in
-        record {
-          preempt = sym (ap (λ (y : ℕ × Stage). y.0) both);
-          phases = is p ∙ ap (λ (y : Plan). stage_phases y n k p) (sym same) ∙ ap (λ (y : ℕ × Stage). stage_phases b.plan y.0 y.1 p) (sym both);
-        }
 
 pub around : (tripped : Bool) (plan : Plan) (rows : Rows) (service : Option Service) (crosses : Bool) (side : ℕ) → TellsService plan rows service →
     crosses ≡ is_some (rings_in rows.rings).crossing → side ≡ (rings_in rows.rings).side →

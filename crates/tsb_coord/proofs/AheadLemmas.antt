@@ -38,11 +38,6 @@ none_of_none a w none = omega arith
 all_left : (a w : ℕ) → w ≡ 0 → a - w ≡ a
 all_left a w none = omega arith
 
-still_below : (a w m : ℕ) → a < m → a - w < m
-still_below a w m low = omega arith
-
--- ## What is lost and gained, from tick to tick
-
 quotient_grows : (d x y : ℕ) → x ≤ y → x / d ≤ y / d
 quotient_grows zero x y up = omega (arith, div-zero x, div-zero y)
 quotient_grows (suc d) x y up =
@@ -235,19 +230,6 @@ none_by AddOnly plan n c x none = none_of_none c.ahead (lost (correction_limit p
 pub some_cycle : (a m : ℕ) → a < m → 0 < m
 some_cycle a m low = omega arith
 
--- it is less than a cycle ahead
-pub below_by : (mode : CorrectionMode) (plan : Plan) (n : ℕ) (c : Correction) (x : ℕ) → c.ahead < cycle plan n → ahead_by mode plan n c x < cycle plan n
-below_by AtOnce plan n c x low = some_cycle c.ahead (cycle plan n) low
-below_by Dwell plan n c x low =
-    still_below c.ahead (waited (cycle plan n) (longest_wait (correction_limit plan) (cycle plan n)) (x - way plan n c)) (cycle plan n) low
-below_by ShortWay plan n c x low = go (is_slower_way (cycle plan n) c.ahead)
-  where
-    go : (b : Bool) → (if b then slower c.ahead (lost (correction_limit plan) x) else faster (cycle plan n) c.ahead (gained (correction_limit plan) x)) < cycle plan n
-    go true = still_below c.ahead (lost (correction_limit plan) x) (cycle plan n) low
-    go false = mod-lt (c.ahead + min (cycle plan n - c.ahead) (gained (correction_limit plan) x)) (some_cycle c.ahead (cycle plan n) low)
-below_by AddOnly plan n c x low = still_below c.ahead (lost (correction_limit plan) x) (cycle plan n) low
-
--- in the tick of the selection it is ahead by as many as the selection found
 pub start_by : (mode : CorrectionMode) (plan : Plan) (n : ℕ) (c : Correction) (x : ℕ) → x ≡ 0 → mode ≢ AtOnce → c.ahead < cycle plan n → ahead_by mode plan n c x ≡ c.ahead
 start_by AtOnce plan n c x first other low = absurd (other refl)
 start_by Dwell plan n c x first other low =

@@ -2,9 +2,9 @@
 use Rattle.std.proofs.Common.{zero, suc, ◌≡◌, ℕ, ◌+◌, ◌*◌, ◌/◌, ◌%◌, ◌<◌, ◌≤◌, List, [], ◌∷◌, length, slice_index, ◌==◌, Option, Some, None, refl, ap, ◌∙◌, arith}
 use Rattle.std.proofs.lemmas.Bool.{cond-false, ne_eqb}
 use Rattle.tsb_objects.specs.tsb_plan.Parts.{unless_zero}
-use Rattle.std.proofs.Math.Nat.{div-add-mod', mod-lt, mod-eq_of_lt, lt-div-mul-add}
-use Rattle.std.proofs.lemmas.Nat.{div-mul-add, mod-mul-add, div_below, le-div}
-use Rattle.tsb_objects.specs.tsb_types.declared.clock_time.TheConstants.{DAY, FIRST_MOMENT, LAST_DAY}
+use Rattle.std.proofs.Math.Nat.{div-add-mod', mod-lt}
+use Rattle.std.proofs.lemmas.Nat.{div-mul-add, mod-mul-add, div_below}
+use Rattle.tsb_objects.specs.tsb_types.declared.clock_time.TheConstants.{DAY, LAST_DAY}
 use Rattle.tsb_objects.specs.tsb_types.Lists.{or_number}
 use Rattle.tsb_coord.specs.Cells.{pattern_in, correction_in, start_in, pattern_cells, IsBy}
 use Rattle.tsb_coord.specs.Correction.{Correction}

@@ -1,13 +1,13 @@
 -- A local counter with a clock: it counts from the midnight at or before its selection, and without a clock from tick
 -- number 0.
-use Rattle.std.proofs.Common.{◌≡◌, ◌≢◌, ℕ, ◌+◌, ◌-◌, ◌*◌, ◌/◌, ◌%◌, ◌<◌, ◌≤◌, ◌==◌, true, Bool, if◌then◌else◌, Option, Some, None, refl, sym, ap, subst, ◌∙◌, arith}
-use Rattle.std.proofs.Math.Nat.{div-add-mod', mod-lt, mod-eq_of_lt, mod-add-mod}
+use Rattle.std.proofs.Common.{◌≡◌, ◌≢◌, ℕ, ◌+◌, ◌-◌, ◌*◌, ◌/◌, ◌%◌, ◌<◌, ◌≤◌, true, Bool, if◌then◌else◌, Option, Some, None, ap, ◌∙◌, arith}
+use Rattle.std.proofs.Math.Nat.{div-add-mod', mod-lt, mod-add-mod}
 use Rattle.std.proofs.lemmas.Bool.{ne_eqb}
 use Rattle.std.proofs.lemmas.Nat.{mod-mul-add}
-use Rattle.tsb_objects.specs.tsb_types.declared.clock_time.TheConstants.{DAY, FIRST_MOMENT}
+use Rattle.tsb_objects.specs.tsb_types.declared.clock_time.TheConstants.{DAY}
 use Rattle.tsb_objects.specs.tsb_types.declared.limits.TheConstants.{TICKS}
 use Rattle.tsb_objects.specs.tsb_plan.Plan.{Plan}
-use Rattle.tsb_objects.specs.tsb_plan.Parts.{is_used, cycle}
+use Rattle.tsb_objects.specs.tsb_plan.Parts.{cycle}
 use Rattle.tsb_objects.specs.tsb_plan.Running.{running}
 use Rattle.tsb_objects.specs.tsb_rules.Rules.{first_broken}
 use Rattle.tsb_coord.specs.Clock.{midnight_at, shift, spare}

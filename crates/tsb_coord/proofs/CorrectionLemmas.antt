@@ -12,16 +12,13 @@ use Rattle.tsb_objects.specs.tsb_plan.Running.{running}
 use Rattle.tsb_objects.specs.tsb_rules.Rules.{first_broken}
 use Rattle.tsb_objects.proofs.InstantLemmas.{offset-below}
 use Rattle.tsb_coord.specs.Coordinated.{counter, offset_in_effect, local, local_in, residue_of_difference, is_at_force_off, asks_force_off, asks_recycle, is_pattern, forces_off, recycles}
-use Rattle.tsb_coord.specs.Correction.{Correction, in_step, ahead_by, within_cycle, ahead_in, counted_tick, local_now, steps_twice_in, steps_twice, forces, comes_to_force_off, is_in_step, lets_walk_again, ahead_with, ahead_from, begun, selected_correction, in_step_from, shift_of, shift_in, clocked}
+use Rattle.tsb_coord.specs.Correction.{Correction, ahead_by, within_cycle, ahead_in, counted_tick, local_now, steps_twice_in, steps_twice, forces, comes_to_force_off, is_in_step, lets_walk_again, ahead_with, ahead_from, begun, selected_correction, in_step_from, shift_of, shift_in, clocked}
 use Rattle.tsb_coord.specs.Clock.{shift}
 use Rattle.tsb_coord.specs.Laws.{IsAtMostBehind, most_steps, CountsInStep, IsLongEnough}
 use Rattle.tsb_coord.proofs.LocalLemmas.{counter_moves_on, difference_moves_on, in_range, its_parts, runs_now}
-use Rattle.tsb_coord.proofs.AheadLemmas.{rest_grows, rest_stays, rest_goes_on, once_by, none_by, some_cycle, below_by, start_by, IsOn, on_by, arrives_by}
+use Rattle.tsb_coord.proofs.AheadLemmas.{rest_grows, rest_stays, rest_goes_on, once_by, none_by, some_cycle, start_by, IsOn, on_by, arrives_by}
 
 -- ## How far it is ahead in a tick
-
-pub ahead_below : (plan : Plan) (n : ℕ) (c : Correction) (t : ℕ) → 0 < cycle plan n → ahead_in plan (Some n) c t < cycle plan n
-ahead_below plan n c t some = below_by (correction_mode plan) plan n (within_cycle plan n c) (t - c.since) (mod-lt c.ahead some)
 
 pub once_in_step : (plan : Plan) (runs : Option ℕ) (c : Correction) (t u : ℕ) → ahead_in plan runs c t ≡ 0 → t ≤ u → ahead_in plan runs c u ≡ 0
 once_in_step plan None c t u there later = refl

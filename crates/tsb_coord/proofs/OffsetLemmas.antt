@@ -12,7 +12,7 @@ use Rattle.tsb_objects.specs.tsb_rules.Rules.{first_broken}
 use Rattle.tsb_objects.specs.Instants.{force_off, waiting_point, end_within, counted_to, offset_from, offset_in_effect}
 use Rattle.tsb_coord.specs.Coordinated.{counter, local, local_in, residue_of_difference, end_of, reference, forces_off, recycles, is_pattern}
 use Rattle.tsb_coord.specs.Clock.{shift}
-use Rattle.tsb_coord.specs.Correction.{Correction, longest_wait, waited, slower, shift_of, shift_in, clocked, way, ahead_by, ahead_in, within_cycle, steps_twice_in, ahead_with, ahead_from, begun, selected_correction, local_now, forces, lets_walk_again}
+use Rattle.tsb_coord.specs.Correction.{Correction, longest_wait, waited, slower, shift_of, shift_in, clocked, way, ahead_by, ahead_in, within_cycle, steps_twice_in, ahead_with, begun, selected_correction}
 use Rattle.tsb_coord.specs.OffsetLaws.{with_offsets, AskAlike}
 use Rattle.tsb_coord.proofs.LocalLemmas.{same_residue, in_range, its_parts, local_now as local_of_used}
 

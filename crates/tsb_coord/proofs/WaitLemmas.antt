@@ -17,7 +17,7 @@ use Rattle.tsb_objects.proofs.InstantLemmas.{instants-below, offset-below, late-
 use Rattle.tsb_coord.specs.declared.coordination.Coordination.{Coordination}
 use Rattle.tsb_coord.specs.Cells.{pattern_in, correction_in}
 use Rattle.tsb_coord.specs.Coordinated.{counter, offset_in_effect, local_in, instant_from, first_coordinated, reference, force_off, agree, yields_to, instant_of, late_end, is_late, is_forced_late, yields_for, is_behind, is_permitted, permissive_end, forces_off, walk_and_clearance, may_recycle, is_left, recycles, recycle_end_from, recycle_end, asks_force_off, asks_recycle}
-use Rattle.tsb_coord.specs.Correction.{Correction, counted_tick, steps_twice, forces, is_in_step, lets_walk_again, shift_of, shift_in, clocked}
+use Rattle.tsb_coord.specs.Correction.{Correction, is_in_step, shift_of, shift_in, clocked}
 use Rattle.tsb_coord.specs.Due.{ForcesOff, EndsPermission, EndsRecycle, IsMet, IsEnded, IsExact}
 use Rattle.tsb_coord.specs.Promises.{AreOrders}
 use Rattle.tsb_coord.proofs.CorrectionLemmas.{stays_in_step, forces_in_step, walks_in_step}
@@ -204,37 +204,6 @@ module _ (plan : Plan) (few : plan.phase_count ≤ 16) (none : first_broken plan
             ∙ sym (walks_in_step plan (pattern_in row) c t p still);
         omit = said.omit;
       }
-
--- in free operation nothing is ever asked
-pub free_orders : (plan : Plan) (row : List ℕ) (now t : ℕ) (orders : Coordination) → running plan (pattern_in row) ≡ None →
-    AreOrders now plan row orders → AreOrders t plan row orders
-free_orders plan row now t orders free said = record {
-  runs = said.runs;
-  sequence = said.sequence;
-  hold = said.hold;
-  forced = λ p from to. said.forced p from to ∙ unasked now p ∙ sym (unasked t p);
-  recycle = λ p from to. said.recycle p from to ∙ no_walk now p ∙ sym (no_walk t p);
-  omit = said.omit;
-}
-  where
-    and_false : (b : Bool) → (b && false) ≡ false
-    and_false true = refl
-    and_false false = refl
-
-    no_walk : (t p : ℕ) → lets_walk_again plan (pattern_in row) (correction_in row) t p ≡ false
-    no_walk t p =
-        ap (λ b. is_in_step plan (pattern_in row) (correction_in row) (t - 1) && b) (ap (λ o. recycles plan o (local_in plan (t + shift_in plan o (correction_in row)) o) p) free)
-        ∙ and_false (is_in_step plan (pattern_in row) (correction_in row) (t - 1))
-
-    none_at : (t p : ℕ) → asks_force_off plan t (pattern_in row) p ≡ false
-    none_at t p = ap (λ o. forces_off plan o (local_in plan t o) p) free
-
-    unasked : (t p : ℕ) → forces plan (pattern_in row) (correction_in row) t p ≡ false
-    unasked t p =
-        let at : ℕ = counted_tick plan (pattern_in row) (correction_in row) t in
-        let two : Bool = steps_twice plan (pattern_in row) (correction_in row) t in
-        ap (λ b. b || (two && asks_force_off plan (at - 1) (pattern_in row) p)) (none_at at p)
-        ∙ ap (λ b. two && b) (none_at (at - 1) p) ∙ and_false two
 
 -- ## Until the next force-off
 

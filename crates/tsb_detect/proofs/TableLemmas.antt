@@ -1,5 +1,5 @@
 -- Tables of detectors: a list takes two cells of 32 bits, its lower 32 bits first.
-use Rattle.std.proofs.Common.{◌≡◌, ℕ, ◌+◌, ◌-◌, ◌*◌, ◌/◌, ◌%◌, ◌<◌, ◌≤◌, Bool, List, [], ◌∷◌, ◌++◌, length, take, drop, get_or, slice_index, map, sym, ap, ap₂, ◌∙◌, arith, length-take-le, length-drop, length-append, get_or-take}
+use Rattle.std.proofs.Common.{◌≡◌, ℕ, ◌+◌, ◌-◌, ◌*◌, ◌/◌, ◌%◌, ◌<◌, ◌≤◌, Bool, List, [], ◌∷◌, slice_index, ap, ap₂, ◌∙◌, arith}
 use Rattle.tsb_objects.specs.tsb_types.declared.limits.TheConstants.{VEHICLE_DETECTORS}
 use Rattle.tsb_objects.specs.tsb_types.Sets.{names, list_of, wide_list_in}
 use Rattle.tsb_objects.proofs.tsb_types.SetLemmas.{list_of-names_within, list_of-below, names-list_of, same-list_of}

@@ -1,5 +1,5 @@
 -- Answers are said one after another, and go out in any pieces.
-use Rattle.std.proofs.Common.{◌≡◌, ℕ, ◌+◌, ◌-◌, ◌<◌, ◌≤◌, List, [], ◌∷◌, ◌++◌, length, take, drop, get_or, refl, sym, ap, ◌∙◌, append_assoc, arith, subst, zero, suc, OnOk, OnErr, Ok, Err}
+use Rattle.std.proofs.Common.{◌≡◌, ℕ, ◌+◌, ◌-◌, ◌<◌, List, [], ◌∷◌, ◌++◌, length, take, drop, get_or, refl, sym, ap, ◌∙◌, append_assoc, arith, subst, OnOk, OnErr, Ok, Err}
 use Rattle.std.proofs.lemmas.List.{append-nil, take-append-drop, drop-drop, length-drop, take_all}
 use Rattle.std.specs.declared.option.Option.{Option}
 use Rattle.std.specs.declared.result.Result.{Result}
@@ -32,21 +32,6 @@ said-gone a b c w items lent g n is s out =
       kept = s.kept ∙ ap (λ (l : List ℕ). s.gone ++ l) cut ∙ sym (append_assoc s.gone (take n (drop g items)) (drop (g + n) items));
     }
 
-drop-behind : (g : ℕ) (items x : List ℕ) → g ≤ length items → drop g (items ++ x) ≡ drop g items ++ x
-drop-behind zero items x h = refl
-drop-behind (suc g) [] x h = absurd (omega (arith, h))
-drop-behind (suc g) (i ∷ items) x h = drop-behind g items x (omega (arith, h))
-
--- a text after those that wait
-pub said-behind : (a b : Option (List ℕ)) (w v items new x : List ℕ) (g : ℕ) → Said a b w v [] → drop g items ≡ v → g ≤ length items → new ≡ items ++ x → Said a b w (drop g new) x
-said-behind a b w v items new x g s is h grown =
-    let there : drop g new ≡ v ++ x = ap (drop g) grown ∙ drop-behind g items x h ∙ ap (λ (l : List ℕ). l ++ x) is in
-    record {
-      gone = s.gone;
-      grown = s.grown;
-      kept = ap (λ (l : List ℕ). l ++ x) (sym (append-nil w) ∙ s.kept) ∙ append_assoc s.gone v x ∙ ap (λ (l : List ℕ). s.gone ++ l) (sym there);
-    }
-
 -- one byte more of a text
 pub said-byte : (a b c : Option (List ℕ)) (w v u text : List ℕ) (i x : ℕ) → i < length text → x ≡ get_or text i 0 → Said a b w v (take i text) → Said b c v u (x ∷ []) → Said a c w u (take (i + 1) text)
 said-byte a b c w v u text i x lt is s r = subst (λ (t : List ℕ). Said a c w u t) (front-more [] text i x lt is) (said-more a b c w v u (take i text) (x ∷ []) s r)
@@ -65,12 +50,6 @@ said-front a b c w v u text i s r = record {
 pub until-line : {T E : Type 0} (r : Result T E) (a b : Option (List ℕ)) (p q text : List ℕ) → OnOk r (Said a b p q text) → OnErr r (Said a b p q []) → SaidUntilFault r a b p q text
 until-line (Ok t) a b p q text ok fault = ok
 until-line (Err e) a b p q text ok fault = record { text = []; said = fault; so = (text, refl) }
-
--- a text was said, or a first part of it
-pub until-part : {T E : Type 0} (r : Result T E) (a b : Option (List ℕ)) (p q text : List ℕ) → OnOk r (Said a b p q text)
-    → IsCutShort a b p q text → SaidUntilFault r a b p q text
-until-part (Ok t) a b p q text ok front = ok
-until-part (Err e) a b p q text ok front = front
 
 -- a text after one that was said
 pub until-more : {T E : Type 0} (r : Result T E) (a b c : Option (List ℕ)) (w v u text x : List ℕ) → Said a b w v text → SaidUntilFault r b c v u x → SaidUntilFault r a c w u (text ++ x)

@@ -1,5 +1,5 @@
 -- Reading the ends of greens of a text, line by line.
-use Rattle.std.proofs.Common.{◌≡◌, ℕ, ◌+◌, ◌≤◌, List, [], ◌∷◌, ◌++◌, Global, refl, sym, ap, subst, ◌∙◌, Option, Some, None, Result, Ok, Err, append_assoc, append-nil, if◌then◌else◌, length}
+use Rattle.std.proofs.Common.{◌≡◌, ℕ, ◌+◌, ◌≤◌, List, [], ◌∷◌, ◌++◌, Global, refl, sym, ap, subst, ◌∙◌, Option, Some, None, Result, Ok, Err, append_assoc, append-nil, length}
 use Rattle.std.proofs.lemmas.Bool.{le-ltb}
 use Rattle.tsb_lines.specs.Lines.{lines_of}
 use Rattle.tsb_event_text.specs.declared.faults.RowFault.{RowFault}

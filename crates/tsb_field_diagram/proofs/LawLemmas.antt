@@ -1,5 +1,5 @@
 -- Bars are stretches.
-use Rattle.std.proofs.Common.{◌≡◌, ◌≢◌, ◌∙◌, ℕ, ◌<◌, ◌≤◌, max, Bool, true, false, leb, ltb, eqb, if◌then◌else◌, List, [], ◌∷◌, ◌⊎◌, refl, sym, ap, arith, inl, inr}
+use Rattle.std.proofs.Common.{◌≡◌, ◌≢◌, ◌∙◌, ℕ, ◌<◌, ◌≤◌, max, true, false, leb, ltb, eqb, if◌then◌else◌, List, [], ◌∷◌, ◌⊎◌, refl, sym, ap, arith, inl, inr}
 use Rattle.std.proofs.lemmas.Bool.{cases_Bool, le-leb, lt-leb, lt-ltb, le-ltb, eq-eqb}
 use Rattle.std.proofs.lemmas.Bool.Decides.{leb_tells, eqb_tells}
 use Rattle.tsb_field_diagram.specs.declared.band.BandMark.{BandMark}

@@ -1,14 +1,10 @@
 -- What a filter takes, from line to line.
-use Rattle.std.proofs.Common.{Option, ◌≡◌, ℕ, ◌+◌, ◌-◌, ◌*◌, ◌/◌, ◌<◌, ◌≤◌, nat_lt, Bool, true, false, nat_le, max, List, [], ◌∷◌, ◌++◌, length, length-append, refl, sym, ap, ◌∙◌, arith, subst, Some, None, Result, Ok, Err, inl, inr, if◌then◌else◌}
-use Rattle.std.proofs.Math.Nat.{div-mul-le_self}
-use Rattle.std.proofs.lemmas.Nat.{le-div}
+use Rattle.std.proofs.Common.{Option, ◌≡◌, ℕ, ◌+◌, ◌-◌, ◌<◌, ◌≤◌, nat_lt, Bool, true, false, nat_le, List, [], ◌∷◌, ◌++◌, length, length-append, refl, sym, ap, ◌∙◌, arith, subst, Some, None, Result, Ok, Err, if◌then◌else◌}
 use Rattle.std.proofs.lemmas.Bool.{leb-false, leb-true, lt-ltb, le-ltb}
-use Rattle.std.proofs.lemmas.Bool.Decides.{leb_tells}
 use Rattle.std.proofs.lemmas.List.{append-nil}
 use Rattle.tsb_log_text.specs.declared.log.LogRow.{LogRow}
 use Rattle.tsb_log_text.specs.tsb_types.declared.limits.TheConstants.{TICKS}
-use Rattle.tsb_event_text.specs.Columns.{usual_of}
-use Rattle.tsb_event_text.specs.Faults.{fault_of, is_preface}
+use Rattle.tsb_event_text.specs.Faults.{fault_of}
 use Rattle.tsb_event_text.specs.Wide.{is_passed, wide_of}
 use Rattle.tsb_event_text.specs.declared.wide.WideRow.{WideRow}
 use Rattle.tsb_event_text.specs.declared.columns.Columns.{Columns}
@@ -27,19 +23,15 @@ use Rattle.tsb_field_log.specs.Streets.{tick_at, rows_in}
 use Rattle.tsb_field_log.specs.Pushed.{last_tick, rows_before}
 use Rattle.tsb_field_log.specs.Taken.{HasTaken}
 use Rattle.tsb_field_log.proofs.PushedLemmas.{last-push, order-last}
-use Rattle.tsb_field_streams.specs.Holding.{held_rows, most_rows}
-use Rattle.tsb_field_streams.specs.Order.{placed}
-use Rattle.tsb_field_streams.specs.declared.held.Held.{Held}
 use Rattle.tsb_field_streams.specs.declared.error.FilterError.{FilterError}
-use Rattle.tsb_field_streams.specs.declared.error.FilterError.TheVariants.{TimeOrder, TooManyRows, PastEnd, LogTooLarge}
+use Rattle.tsb_field_streams.specs.declared.error.FilterError.TheVariants.{TimeOrder, TooManyRows, LogTooLarge}
 use Rattle.tsb_field_streams.specs.declared.filter.Filter.{Filter}
-use Rattle.tsb_field_streams.specs.declared.filter.gaps.Gaps.{Gaps}
 use Rattle.tsb_field_log.specs.Wires.{form_of_wires}
 use Rattle.tsb_log_text.specs.ListText.{text_in}
 use Rattle.tsb_log_text.specs.declared.form.RowForm.{RowForm}
 use Rattle.tsb_log_text.specs.declared.read.TheConstants.{LIMIT}
 use Rattle.tsb_log_text.proofs.WrittenLemmas.{append-in, none-in}
-use Rattle.tsb_field_streams.specs.Filtering.{Given, Stand, bound_of, disorder, lateness, most_held, with_count, with_due, with_event, with_first, with_given, with_held, with_in_order, with_formed, with_late, with_noted, with_other_line, with_passed, with_row_line, with_signal, with_some_row, with_wide, with_zone, may_be_plain, text_by}
+use Rattle.tsb_field_streams.specs.Filtering.{Given, Stand, bound_of, disorder, lateness, most_held, with_count, with_due, with_event, with_held, with_in_order, with_formed, with_late, with_noted, with_other_line, with_passed, with_row_line, with_signal, with_some_row, with_wide, with_zone, may_be_plain, text_by}
 use Rattle.tsb_field_streams.specs.Standing.{StandsAt, Takes}
 
 pub none_known : (g : Given) → length (text_by g (rows_before g.from g.wires [])) ≡ 0
@@ -47,54 +39,6 @@ unfolding changes
 none_known g = ap length (none-in (form_of_wires g.wires))
 
 -- ## Moments
-
-quotients : (a b : ℕ) → a ≤ b → a / 100000000 ≤ b / 100000000
-quotients a b le =
-    let low : a / 100000000 * 100000000 ≤ a = div-mul-le_self a 100000000 in
-    le-div (a / 100000000) b 100000000 (omega arith) (omega (arith, low, le))
-
--- a later moment lies in no earlier tick
-pub ticks-follow : (from a b : ℕ) → a ≤ b → tick_at from a ≤ tick_at from b
-ticks-follow from a b le = elim (leb_tells from a) [
-  | inr early ↦ rw (lt-ltb a from early.1) (omega arith)
-  | inl in_a ↦
-      let there : from ≤ b = (let h : from ≤ a = in_a.1 in omega (arith, h, le)) in
-      let q : (a - from) / 100000000 ≤ (b - from) / 100000000 = quotients (a - from) (b - from) (omega (arith, le)) in
-      rw (le-ltb a from in_a.1, le-ltb b from there) (omega (arith, q))
-]
-
--- a row that is no earlier than the last counts, and moves the moment on
-pub stands_counted : (g : Given) (s : Stand) (f : Filter) (moment counted first : ℕ) (gaps : Gaps) → StandsAt g s f → s.last ≤ moment → counted ≡ (with_count s moment).counted → first ≡ (with_count s moment).first → gaps ≡ (with_count s moment).gaps
-    → StandsAt g (with_count s moment) (record f { counted = counted; first = first; last = moment; gaps = gaps })
-stands_counted g s f moment counted first gaps at le counts begins paused = record {
-  reading = at.reading;
-  device = at.device;
-  wires = at.wires;
-  columns = at.columns;
-  times = at.times;
-  zoned = at.zoned;
-  counted = counts;
-  first = begins;
-  last = refl;
-  gaps = paused;
-  devices = at.devices;
-  strays = at.strays;
-  used = at.used;
-  others = at.others;
-  unwired = at.unwired;
-  passed = at.passed;
-  found = at.found;
-  street = at.street;
-  behind = let b : last_tick g.from s.events ≤ tick_at g.from s.last = at.behind in
-      let t : tick_at g.from s.last ≤ tick_at g.from moment = ticks-follow g.from s.last moment le in
-      omega (arith, b, t);
-  form = at.form;
-  bytes = at.bytes;
-  few = at.few;
-  held = at.held;
-  most = at.most;
-  latest = at.latest;
-}
 
 -- a form of times that is known changes nothing else
 pub stands_formed : (g : Given) (s : Stand) (f : Filter) (form : TimeForm) → StandsAt g s f → StandsAt g (record s { times = Some form }) (record f { times = Some form })
@@ -127,9 +71,6 @@ stands_formed g s f form at = record {
 }
 
 -- ## An event of an input
-
-pub event-past : (g : Given) (s : Stand) (e : InputEvent) → TICKS < tick_at g.from e.nanos → with_event g s e ≡ Err PastEnd
-event-past g s e past = rw (lt-ltb TICKS (tick_at g.from e.nanos) past) refl
 
 -- an event that was pushed lies within the ticks of a bench
 within : (from : ℕ) (wires : List Wire) (es : List InputEvent) (e : InputEvent) (street : Street) → HasTaken from wires (es ++ e ∷ []) street → tick_at from e.nanos ≤ TICKS
@@ -283,83 +224,7 @@ wide-takes g number s text columns row given f passed spelled takes =
         ap (λ (b : Bool). if b then with_passed s else with_wide g number (with_zone g (with_noted g s columns text) columns text (wide_of columns s.times g.zone g.device text)) (fault_of columns s.times text) (wide_of columns s.times g.zone g.device text)) passed
         ∙ ap (λ (found : Option WideRow). with_wide g number (with_zone g (with_noted g s columns text) columns text found) (fault_of columns s.times text) found) spelled
 
--- the first row, with its columns in the usual places
-pub first-takes : (g : Given) (number : ℕ) (s : Stand) (text : List ℕ) (columns : Columns) (given : Result KnownRows FilterError) (f : Filter) → is_preface text ≡ false → columns ≡ usual_of text
-    → Takes g s (with_row_line g number (record s { columns = Some columns }) columns text) given f → Takes g s (with_first g number s text None) given f
-first-takes g number s text columns given f no_preface usual takes =
-    subst (λ (come : Result Stand FilterError). Takes g s come given f)
-    (sym (ap (λ (b : Bool). if b then with_passed s else with_row_line g number (record s { columns = Some (usual_of text) }) (usual_of text) text) no_preface))
-    (subst (λ (places : Columns). Takes g s (with_row_line g number (record s { columns = Some places }) places text) given f) usual takes)
-
 -- ## Rows that are held
-
--- other rows are held
-pub stands_given : (g : Given) (s : Stand) (f : Filter) (held : Held) (rows : List EventRow) → StandsAt g s f → held_rows held ≡ rows → most_rows held ≡ most_rows f.held
-    → StandsAt g (record s { held = rows }) (record f { held = held })
-stands_given g s f held rows at is most = record {
-  reading = at.reading;
-  device = at.device;
-  wires = at.wires;
-  columns = at.columns;
-  times = at.times;
-  zoned = at.zoned;
-  counted = at.counted;
-  first = at.first;
-  last = at.last;
-  gaps = at.gaps;
-  devices = at.devices;
-  strays = at.strays;
-  used = at.used;
-  others = at.others;
-  unwired = at.unwired;
-  passed = at.passed;
-  found = at.found;
-  street = at.street;
-  behind = at.behind;
-  form = at.form;
-  bytes = at.bytes;
-  few = at.few;
-  held = is;
-  most = most ∙ at.most;
-  latest = at.latest;
-}
-
--- one more row is held
-pub stands_held : (g : Given) (s : Stand) (f : Filter) (held : Held) (row : EventRow) (latest : ℕ) → StandsAt g s f → held_rows held ≡ placed row (held_rows f.held) → most_rows held ≡ most_rows f.held
-    → latest ≡ max f.latest row.moment.nanos → StandsAt g (with_held s row) (record f { held = held; latest = latest })
-stands_held g s f held row latest at is most later = record {
-  reading = at.reading;
-  device = at.device;
-  wires = at.wires;
-  columns = at.columns;
-  times = at.times;
-  zoned = at.zoned;
-  counted = at.counted;
-  first = at.first;
-  last = at.last;
-  gaps = at.gaps;
-  devices = at.devices;
-  strays = at.strays;
-  used = at.used;
-  others = at.others;
-  unwired = at.unwired;
-  passed = at.passed;
-  found = at.found;
-  street = at.street;
-  behind = at.behind;
-  form = at.form;
-  bytes = at.bytes;
-  few = at.few;
-  held = is ∙ ap (placed row) at.held;
-  most = most ∙ at.most;
-  latest = later ∙ ap (λ (n : ℕ). max n row.moment.nanos) at.latest;
-}
-
--- a row that is given out is taken in order
-pub given-takes : (g : Given) (number : ℕ) (s : Stand) (rows : List EventRow) (first : Option EventRow) (row : EventRow) (given : Result KnownRows FilterError) (f : Filter) → first ≡ Some row
-    → Takes g (record s { held = rows }) (with_in_order g number (record s { held = rows }) row) given f → Takes g s (with_given g number (record s { held = rows }) first) given f
-given-takes g number s rows first row given f is takes =
-    subst (λ (o : Option EventRow). Takes g s (with_given g number (record s { held = rows }) o) given f) (sym is) takes
 
 -- a row that is not too late, and for which there is room, is held
 pub late-takes : (g : Given) (number : ℕ) (s : Stand) (row : EventRow) (seconds bound : ℕ) (given : Result KnownRows FilterError) (f : Filter) → bound ≡ bound_of s.latest seconds → bound ≤ row.moment.nanos

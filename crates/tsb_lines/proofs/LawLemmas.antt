@@ -7,9 +7,6 @@ use Rattle.tsb_lines.specs.Lines.{split, onto_first, HasNoFeed}
 use Rattle.tsb_lines.specs.Words.{words_of, onto_word}
 use Rattle.tsb_lines.specs.Laws.{joined, IsWord, MakeUpTheText, HaveNoFeed, IgnoreSpaces, EndAtSpaces, EndAtTheEnd}
 
-joined-feed : (ls : List (List ℕ)) (l : List ℕ) → joined ([] ∷ l ∷ ls) ≡ 10 ∷ joined (l ∷ ls)
-joined-feed ls l = refl
-
 joined-onto : (b : ℕ) (ls : List (List ℕ)) → joined (onto_first b ls) ≡ b ∷ joined ls
 joined-onto b [] = refl
 joined-onto b (l ∷ []) = refl

@@ -17,10 +17,6 @@ without-none (b ∷ []) (suc n) l e = absurd (omega arith)
 without-none (b ∷ c ∷ bs) zero l e = absurd (omega arith)
 without-none (b ∷ c ∷ bs) (suc n) l e = ap (λ (v : List ℕ). b ∷ v) (without-none (c ∷ bs) n (omega arith) e)
 
-pub without-empty : (xs : List ℕ) → length xs ≡ 0 → xs ≡ without_return xs
-without-empty [] l = refl
-without-empty (b ∷ xs) l = absurd (omega arith)
-
 -- at most one byte is taken off a line
 pub length-return : (xs : List ℕ) → length xs ≤ length (without_return xs) + 1
 length-return [] = omega arith

@@ -84,9 +84,3 @@ consumes-kept (Some xs) (Some ys) (Some zs) x h k = h ∙ ap (λ (v : List ℕ).
 pub front-more : (h bytes : List ℕ) (i x : ℕ) → i < length bytes → x ≡ get_or bytes i 0 → (h ++ take i bytes) ++ x ∷ [] ≡ h ++ take (i + 1) bytes
 front-more h bytes i x lt is =
     append_assoc h (take i bytes) (x ∷ []) ∙ ap (λ (v : List ℕ). h ++ v) (ap (λ (y : ℕ). take i bytes ++ y ∷ []) is ∙ sym (take_more bytes i 0 lt))
-
--- and what is left of it stands after
-pub front-rest : (h bytes : List ℕ) (i x : ℕ) → i < length bytes → x ≡ get_or bytes i 0 → ((h ++ take i bytes) ++ x ∷ []) ++ drop (i + 1) bytes ≡ h ++ bytes
-front-rest h bytes i x lt is =
-    ap (λ (v : List ℕ). v ++ drop (i + 1) bytes) (front-more h bytes i x lt is) ∙ append_assoc h (take (i + 1) bytes) (drop (i + 1) bytes)
-    ∙ ap (λ (v : List ℕ). h ++ v) (take-append-drop (i + 1) bytes)

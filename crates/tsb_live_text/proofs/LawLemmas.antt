@@ -33,7 +33,7 @@ use Rattle.tsb_text.specs.declared.faults.OnFault.{OnFault}
 use Rattle.tsb_text.specs.declared.task.Task.{Task}
 use Rattle.tsb_text.specs.declared.task.Task.TheVariants as tasks
 use Rattle.tsb_text.specs.Obeys as session
-use Rattle.tsb_text.specs.Obeys.{AsksOnce, Besides, TakesTicks, nothing_besides}
+use Rattle.tsb_text.specs.Obeys.{Besides, TakesTicks, nothing_besides}
 use Rattle.tsb_live_text.proofs.ChangeLemmas.{held-row}
 use Rattle.tsb_dialog.specs.Said.{with_feed}
 use Rattle.tsb_text.specs.Tasks.{task_of}

@@ -90,10 +90,6 @@ item-one first last e = elim (eqb_tells first last) [ inl z ↦ rw z.0 refl | in
 pub run-more : (n left : ℕ) (on : ℕ → Bool) → on (n + 1) ≡ true → run_end n (suc left) on ≡ run_end (n + 1) left on
 run-more n left on e = rw e refl
 
-pub run-stops : (n left : ℕ) (on : ℕ → Bool) → on (n + 1) ≡ false → run_end n left on ≡ n
-run-stops n zero on e = refl
-run-stops n (suc left) on e = rw e refl
-
 -- what is behind some bytes, as a slice has it
 pub slice-behind : (n : ℕ) (bs : List ℕ) → take (length bs - n) (drop n bs) ≡ drop n bs
 slice-behind n bs = let all : length (drop n bs) ≡ length bs - n = length-drop n bs in take_all (length bs - n) (drop n bs) (omega (arith, all))

@@ -3,7 +3,7 @@ use Rattle.std.proofs.Common.{◌≡◌, ◌∙◌, ◌⊎◌, ℕ, ◌+◌, ◌
 use Rattle.std.proofs.lemmas.Bool.Decides.{eqb_tells}
 use Rattle.tsb_lines.specs.ShortLines.{Adds, fitting}
 use Rattle.tsb_lines.proofs.ShortLemmas.{onto-fitting, then}
-use Rattle.tsb_log_text.specs.ListText.{item_text, items_behind, kind_text, later_items, onto_runs, run_end, runs_from}
+use Rattle.tsb_log_text.specs.ListText.{item_text, items_behind, later_items, onto_runs, run_end, runs_from}
 use Rattle.tsb_log_text.specs.declared.list_line.TheConstants.{LISTS_LINE}
 use Rattle.tsb_log_text.proofs.ListLemmas.{run-more}
 
@@ -81,20 +81,12 @@ skip-step most n on within e =
     let left : most - n ≡ most + 1 - (n + 1) = omega (arith, within) in
     ap (λ (k : ℕ). runs_from n k on) all ∙ off-step n (most - n) on e ∙ ap (λ (k : ℕ). runs_from (n + 1) k on) left
 
--- past the last number there is no run
-pub no-runs : (most n : ℕ) (on : ℕ → Bool) → most < n → runs_from n (most + 1 - n) on ≡ []
-no-runs most n on above = let none : most + 1 - n ≡ zero = omega (arith, above) in ap (λ (k : ℕ). runs_from n k on) none
-
 -- ## What is left to be written
 
 -- the text of the runs that are left: after the letter, or after others
 abbrev pub left_text : Bool → List ℕ → List (ℕ × ℕ) → List ℕ
 left_text true letter rs = items_behind letter rs
 left_text false letter rs = later_items rs
-
-pub left-none : (b : Bool) (letter : List ℕ) → left_text b letter [] ≡ []
-left-none true letter = refl
-left-none false letter = refl
 
 left-is : (b : Bool) (letter : List ℕ) (r : ℕ × ℕ) (rs : List (ℕ × ℕ)) → (if b then letter else codes ",") ++ item_text r ++ later_items rs ≡ left_text b letter (r ∷ rs)
 left-is true letter r rs = refl
@@ -112,18 +104,3 @@ item-step b letter r rs old mid new first second =
     ∙ onto-fitting LISTS_LINE (old ++ (before ++ item)) (later_items rs)
     ∙ ap (fitting LISTS_LINE) (append_assoc old (before ++ item) (later_items rs))
     ∙ ap (λ (ts : List ℕ). fitting LISTS_LINE (old ++ ts)) (left-is b letter r rs)
-
--- what is left before the first number is all
-pub all-left : (letter line : List ℕ) (most : ℕ) (on : ℕ → Bool)
-    → fitting LISTS_LINE (line ++ left_text true letter (runs_from 1 (most + 1 - 1) on)) ≡ fitting LISTS_LINE (line ++ kind_text letter most on)
-all-left letter line most on =
-    let all : most + 1 - 1 ≡ most = omega arith in
-    ap (λ (k : ℕ). fitting LISTS_LINE (line ++ items_behind letter (runs_from 1 k on))) all
-
--- nothing is left, and the text was added
-pub all-written : (b : Bool) (letter old text line new : List ℕ) (rs : List (ℕ × ℕ)) → rs ≡ []
-    → fitting LISTS_LINE (line ++ left_text b letter rs) ≡ fitting LISTS_LINE (old ++ text) → Adds LISTS_LINE line [] new → Adds LISTS_LINE old text new
-all-written b letter old text line new rs none same adds = record {
-  line = adds.line ∙ ap (λ (ts : List ℕ). fitting LISTS_LINE (line ++ ts)) (sym (left-none b letter))
-      ∙ ap (λ (them : List (ℕ × ℕ)). fitting LISTS_LINE (line ++ left_text b letter them)) (sym none) ∙ same;
-}

@@ -1,6 +1,6 @@
 -- The numbers that a list spells, read item by item.
-use Rattle.std.proofs.Common.{◌≡◌, ◌∙◌, ◌⊎◌, ℕ, ◌+◌, ◌-◌, ◌^◌, ◌<◌, ◌≤◌, ◌==◌, ◌*◌, ◌&&◌, ◌||◌, Bool, true, false, zero, suc, List, [], ◌∷◌, ◌++◌, append_assoc, append-nil, drop, get_or, length, take, take_all, is_some, option_map, refl, sym, ap, subst, arith, inl, inr, Option, Some, None, nat_le, nat_lt}
-use Rattle.std.proofs.lemmas.Bool.{and_parts, and_right, false_from_ne_true, false≢true, le-ltb, le-leb, leb-false, leb-true, lt-leb, lt-ltb, ltb-true, or_cases}
+use Rattle.std.proofs.Common.{◌≡◌, ◌∙◌, ◌⊎◌, ℕ, ◌+◌, ◌-◌, ◌^◌, ◌<◌, ◌≤◌, ◌==◌, ◌*◌, ◌&&◌, ◌||◌, Bool, true, false, zero, suc, List, [], ◌∷◌, ◌++◌, append_assoc, append-nil, is_some, option_map, refl, sym, ap, subst, arith, inl, inr, Option, Some, None, nat_le, nat_lt}
+use Rattle.std.proofs.lemmas.Bool.{and_parts, false_from_ne_true, false≢true, le-leb, leb-false, leb-true, lt-ltb, ltb-true, or_cases}
 use Rattle.std.proofs.lemmas.Bool.Decides.{eqb_tells}
 use Rattle.std.proofs.lemmas.Option.{same_Some}
 use Rattle.tsb_lines.specs.Lines.{onto_first}
@@ -9,12 +9,8 @@ use Rattle.tsb_types.specs.Sets.{has_detector, list_of, names}
 use Rattle.tsb_types.proofs.RunLemmas.{among-run}
 use Rattle.tsb_types.proofs.SetLemmas.{list_of-below, names-above, names-list_of, same_names}
 use Rattle.tsb_types.specs.declared.detector_set.DetectorSet.{DetectorSet}
-use Rattle.tsb_log_text.specs.RowLists.{as_range, as_run, ends_of_item, list_before, list_of_numbers, list_spelled, lists_of, numbers_from, own_list, parts, plain_number, row_of_three, with_numbers, words_left}
+use Rattle.tsb_log_text.specs.RowLists.{as_range, as_run, ends_of_item, list_of_numbers, list_spelled, lists_of, numbers_from, own_list, parts, plain_number, row_of_three, with_numbers, words_left}
 use Rattle.tsb_log_text.proofs.RunsLemmas.{is-either}
-
-with-none : (o : Option (List ℕ)) → with_numbers [] o ≡ o
-with-none None = refl
-with-none (Some more) = refl
 
 with-both : (ns ms : List ℕ) (o : Option (List ℕ)) → with_numbers ns (with_numbers ms o) ≡ with_numbers (ns ++ ms) o
 with-both ns ms None = refl
@@ -56,15 +52,6 @@ pub record HasRead (most : ℕ) (list : List ℕ) (on : DetectorSet) (last : ℕ
   pub has : (n : ℕ) → has_detector on n ≡ among n ns
   pub few : (n : ℕ) → among n ns ≡ true → n ≤ most
 
-pub nothing-read : (most : ℕ) (list : List ℕ) (on : DetectorSet) → ((n : ℕ) → has_detector on n ≡ false) → HasRead most list on 0 (parts 44 list)
-nothing-read most list on none = record {
-  ns = [];
-  read = sym (with-none (numbers_from most 0 (parts 44 list)));
-  has = none;
-  few = λ n is. absurd (false≢true is);
-}
-
--- no item is left out
 pub same-left : (most last : ℕ) (list : List ℕ) (on : DetectorSet) (one other : List (List ℕ)) → one ≡ other → HasRead most list on last one → HasRead most list on last other
 same-left most last list on one other same h = subst (HasRead most list on last) same h
 
@@ -92,23 +79,6 @@ item-taken most last first end list item left on now ends above rises within has
         | inr z ↦ in-run n first end most rises within z
       ];
     }
-
--- an item that has no ends
-pub item-none : (most last : ℕ) (list item : List ℕ) (left : List (List ℕ)) (on : DetectorSet)
-    → ends_of_item (parts 45 item) ≡ None → HasRead most list on last (item ∷ left) → list_spelled most list ≡ None
-item-none most last list item left on ends h =
-    let here : numbers_from most last (item ∷ left) ≡ None = rw ends refl in
-    ap (list_of_numbers most) (h.read ∙ ap (with_numbers h.ns) here)
-
--- an item that does not rise, or reaches too far
-pub item-wrong : (most last first end : ℕ) (list item : List ℕ) (left : List (List ℕ)) (on : DetectorSet)
-    → ends_of_item (parts 45 item) ≡ Some (first, end) → (first ≤ last) ⊎ (most < end) → HasRead most list on last (item ∷ left) → list_spelled most list ≡ None
-item-wrong most last first end list item left on ends (inl low) h =
-    let here : numbers_from most last (item ∷ left) ≡ None = rw (ends, le-ltb last first low) refl in
-    ap (list_of_numbers most) (h.read ∙ ap (with_numbers h.ns) here)
-item-wrong most last first end list item left on ends (inr far) h =
-    let here : numbers_from most last (item ∷ left) ≡ None = rw (ends, and_right (nat_lt last first) (nat_le end most) (lt-leb end most far)) refl in
-    ap (list_of_numbers most) (h.read ∙ ap (with_numbers h.ns) here)
 
 -- ## The ends of an item
 
@@ -187,26 +157,6 @@ all-few most last word list on within fits same h =
     subst (λ (w : ℕ). w < 2 ^ most) (the-list most last word list on within fits same h) (list_of-below most (λ n. among n h.ns))
 
 -- ## The lists of a row
-
-eqb-self : (n : ℕ) → (n == n) ≡ true
-eqb-self n = elim (eqb_tells n n) [ inl z ↦ z.0 | inr z ↦ absurd (z.1 refl) ]
-
-own-cut : (letter most : ℕ) (cs word : List ℕ) (rest : List (List ℕ)) → (letter == 32) ≡ false → parts 32 cs ≡ word ∷ rest
-    → own_list letter most (parts 32 (letter ∷ cs)) ≡ list_before (list_spelled most word) rest
-own-cut letter most cs word rest apart e =
-    let cut : parts 32 (letter ∷ cs) ≡ (letter ∷ word) ∷ rest = rw (apart, e) refl in
-    let taken : own_list letter most ((letter ∷ word) ∷ rest) ≡ list_before (list_spelled most word) rest = rw (eqb-self letter) refl in
-    ap (own_list letter most) cut ∙ taken
-
--- the first word has the letter, and its list
-pub own-of : (letter most : ℕ) (text word : List ℕ) (rest : List (List ℕ)) → 1 ≤ length text → get_or text 0 0 ≡ letter → (letter == 32) ≡ false
-    → parts 32 (take (length text - 1) (drop 1 text)) ≡ word ∷ rest → own_list letter most (parts 32 text) ≡ list_before (list_spelled most word) rest
-own-of letter most [] word rest long head apart e = absurd (omega (arith, long))
-own-of letter most (c ∷ cs) word rest long head apart e =
-    let all : take (length cs) cs ≡ cs = take_all (length cs) cs (omega arith) in
-    let count : length (c ∷ cs) - 1 ≡ length cs = omega arith in
-    let whole : parts 32 cs ≡ word ∷ rest = ap (parts 32) (sym all ∙ ap (λ (k : ℕ). take k cs) (sym count)) ∙ e in
-    ap (λ (l : ℕ). own_list letter most (parts 32 (l ∷ cs))) head ∙ own-cut letter most cs word rest apart whole
 
 onto-some : (v p e c : ℕ) (ls : List (List ℕ)) → row_of_three v p (Some (e, onto_first c ls)) ≡ None
 onto-some v p e c [] = refl

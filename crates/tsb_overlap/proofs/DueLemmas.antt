@@ -1,8 +1,8 @@
 -- Ticks that leave overlaps as they are: where no time runs out, what one leaves the next does.
-use Rattle.std.proofs.Common.{◌≡◌, ◌≢◌, ℕ, ◌+◌, ◌-◌, ◌<◌, ◌≤◌, ◌==◌, nat_le, Bool, true, false, not, ◌&&◌, ◌||◌, if◌then◌else◌, List, Option, Some, None, refl, sym, ap, ◌∙◌, arith, inl, inr}
+use Rattle.std.proofs.Common.{◌≡◌, ◌≢◌, ℕ, ◌+◌, ◌-◌, ◌≤◌, ◌==◌, Bool, true, false, not, ◌&&◌, ◌||◌, if◌then◌else◌, List, Option, Some, None, refl, sym, ap, ◌∙◌, arith, inl, inr}
 use Rattle.std.specs.List.{list_any}
 use Rattle.std.proofs.lemmas.Bool.{cases_Bool}
-use Rattle.std.proofs.lemmas.Bool.Decides.{eqb_tells, nat_tests}
+use Rattle.std.proofs.lemmas.Bool.Decides.{eqb_tells}
 use Rattle.tsb_cells.specs.declared.timer.Timer.{Timer}
 use Rattle.tsb_cells.specs.declared.timer.Timer.TheVariants.{Off, On}
 use Rattle.tsb_cells.specs.Timer.{timer_at, has_reached}
@@ -34,26 +34,6 @@ same-interval : (x y : Overlap) → x ≡ y → x.interval ≡ y.interval
 same-interval x y e = ap (λ (z : Overlap). z.interval) e
 
 -- ## Times that do not run out
-
--- at ticks t and `now` the timer of a cell has reached the time alike
-pub reached-same : (now t cell time : ℕ) → now ≤ t → (1 ≤ cell → now < cell - 1 + time → t < cell - 1 + time) →
-    has_reached (timer_at t cell) time ≡ has_reached (timer_at now cell) time
-reached-same now t cell time after within =
-    elim (eqb_tells cell 0) [
-      | inl zero ↦ rw zero.0 refl
-      | inr on ↦ rw on.0 (alike (omega (arith, on.1)))
-    ]
-  where
-    alike : 1 ≤ cell → nat_le time (t + 1 - cell) ≡ nat_le time (now + 1 - cell)
-    alike from =
-        elim (cases_Bool (nat_le time (now + 1 - cell))) [
-          | inl over ↦ (let is : time ≤ now + 1 - cell = grind (arith, nat_tests, over) in let later : time ≤ t + 1 - cell = omega (arith, is, after) in grind (arith, nat_tests, over, later))
-          | inr left ↦
-              (let is : now + 1 - cell < time = grind (arith, nat_tests, left) in
-              let soon : now < cell - 1 + time = omega (arith, is, from) in
-              let then_too : t + 1 - cell < time = omega (arith, within from soon, is, from) in
-              grind (arith, nat_tests, left, then_too))
-        ]
 
 off-zero : (now cell : ℕ) → timer_at now cell ≡ Off → cell ≡ 0
 off-zero now cell e = elim (eqb_tells cell 0) [ inl zero ↦ zero.1 | inr on ↦ absurd (none (rw on.0 at e)) ]

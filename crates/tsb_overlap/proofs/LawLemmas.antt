@@ -30,10 +30,6 @@ choice false y z P one two = two
 
 -- ## Arrows that flash
 
--- what flashes or not is not green
-IsUngreen : OverlapInterval → Type 0
-IsUngreen i = i ≢ Green
-
 ended-ungreen : (t : ℕ) (p : Option ℕ) → (ended_flash t p).interval ≢ Green
 ended-ungreen t None e = cc
 ended-ungreen t (Some p) e = cc
@@ -166,10 +162,6 @@ lit-not_out Yellow lit (inl e) = cc
 lit-not_out Yellow lit (inr e) = cc
 lit-not_out Red lit out = lit
 lit-not_out RedClear lit out = lit
-
--- an arrow that is lit and not over is lit after a tick
-IsArrowLit : OverlapInterval → Type 0
-IsArrowLit i = IsLit i × (i ≢ TrailGreen)
 
 ended-lit : (t : ℕ) (p : Option ℕ) → IsLit (ended_flash t p).interval
 ended-lit t None = tt

@@ -1,5 +1,5 @@
 -- Parts by what they keep, of a choice.
-use Rattle.std.proofs.Common.{◌≡◌, ◌≢◌, ℕ, ◌+◌, ◌≤◌, ◌&&◌, ◌||◌, Bool, true, false, if◌then◌else◌, Option, Some, refl, subst, sym}
+use Rattle.std.proofs.Common.{◌≡◌, ◌≢◌, ℕ, ◌&&◌, ◌||◌, Bool, true, false, if◌then◌else◌, Option, Some, refl, subst, sym}
 use Rattle.tsb_objects.specs.tsb_plan.Plan.{Plan, phases}
 use Rattle.tsb_objects.specs.tsb_plan.Parts.{is_included, is_arrow, trails}
 use Rattle.tsb_objects.specs.tsb_types.Intervals.{is_green}
@@ -7,19 +7,12 @@ use Rattle.tsb_objects.specs.tsb_types.Lists.{first}
 use Rattle.tsb_overlap.specs.declared.parts.OverlapInterval.{OverlapInterval}
 use Rattle.tsb_overlap.specs.declared.parts.OverlapInterval.TheVariants.{Red, Green, TrailGreen, Flashing, Yellow, RedClear}
 use Rattle.tsb_overlap.specs.declared.parts.Part.{Part}
-use Rattle.tsb_overlap.specs.Overlap.{Overlap, Given, standing, unturned, may_flash, ended_flash, left_alone, turn_of, arrow_settled, trail_settled, settled}
+use Rattle.tsb_overlap.specs.Overlap.{Overlap, Given, standing, unturned, may_flash, ended_flash, turn_of, arrow_settled, trail_settled, settled}
 use Rattle.tsb_overlap.specs.Cells.{overlap_of}
 use Rattle.tsb_overlap.specs.Parts.{IsPartOf}
 
 pub then-part : (b : Bool) (now : ℕ) (x y : Overlap) (part : Part) → b ≡ true → IsPartOf now x part → IsPartOf now (if b then x else y) part
 then-part b now x y part e is = subst (λ (c : Bool). IsPartOf now (if c then x else y) part) (sym e) is
-
-pub else-part : (b : Bool) (now : ℕ) (x y : Overlap) (part : Part) → b ≡ false → IsPartOf now y part → IsPartOf now (if b then x else y) part
-else-part b now x y part e is = subst (λ (c : Bool). IsPartOf now (if c then x else y) part) (sym e) is
-
--- a part keeps what it keeps
-pub same-part_of : (now : ℕ) (part : Part) → part.timer ≤ now + 1 → IsPartOf now (overlap_of now part) part
-same-part_of now part timer = record { state = refl; timer = timer }
 
 -- an arrow in red, trailing green or red clearance flashes, or is red
 pub other-unturned : (plan : Plan) (given : Given) (o t now : ℕ) (part result : Part) → part.interval ≢ Yellow → part.interval ≢ Green → part.interval ≢ Flashing →
@@ -50,20 +43,6 @@ flash-unturned plan given o t now part result e is = go part.interval part.timer
     go Yellow timer phase e = absurd cc
     go RedClear timer phase e = absurd cc
     go Flashing timer phase e = is
-
--- an overlap that trails and is not green is left alone
-pub other-left : (given : Given) (now : ℕ) (part : Part) → part.timer ≤ now + 1 → part.interval ≢ Green →
-    IsPartOf now (left_alone given (overlap_of now part) part.interval) part
-other-left given now part timer not_green = go part.interval part.timer part.phase timer not_green
-  where
-    go : (i : OverlapInterval) (timer : ℕ) (phase : Option ℕ) → timer ≤ now + 1 → i ≢ Green →
-        (let x : Part = record { interval = i; timer = timer; phase = phase } in IsPartOf now (left_alone given (overlap_of now x) i) x)
-    go Red timer phase small a = record { state = refl; timer = small }
-    go TrailGreen timer phase small a = record { state = refl; timer = small }
-    go Flashing timer phase small a = record { state = refl; timer = small }
-    go Yellow timer phase small a = record { state = refl; timer = small }
-    go RedClear timer phase small a = record { state = refl; timer = small }
-    go Green timer phase small a = absurd (a refl)
 
 -- an arrow whose turn is Green, and one whose turn is not
 pub turned-part : (plan : Plan) (given : Given) (o t now : ℕ) (part result : Part) → turn_of plan o ≡ Some t → is_green (given.shown.interval t) ≡ true →

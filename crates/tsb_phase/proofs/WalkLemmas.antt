@@ -1,6 +1,5 @@
 -- A walk that begins within a green: it is found where it begins, and its phase is not ready in that tick.
-use Rattle.std.proofs.Common.{◌≡◌, ℕ, Bool, true, false, not, ◌&&◌, if◌then◌else◌, refl, sym, ap, ◌∙◌, inl, inr}
-use Rattle.std.proofs.lemmas.Bool.{and_parts, cases_Bool}
+use Rattle.std.proofs.Common.{◌≡◌, ℕ, Bool, true, false, not, ◌&&◌, if◌then◌else◌, refl, sym, ap, ◌∙◌}
 use Rattle.tsb_objects.specs.tsb_types.declared.interval.PedestrianInterval.{PedestrianInterval}
 use Rattle.tsb_objects.specs.tsb_types.declared.interval.PedestrianInterval.TheVariants.{DontWalk, Walk, PedestrianClear}
 use Rattle.tsb_objects.specs.tsb_types.Intervals.{is_walk, is_dont_walk}
@@ -8,9 +7,7 @@ use Rattle.tsb_objects.specs.tsb_plan.Plan.{Plan}
 use Rattle.tsb_phase.specs.declared.phase_row.PhaseRow.{PhaseRow}
 use Rattle.tsb_phase.specs.Phase.{Phase, Given}
 use Rattle.tsb_phase.specs.Pedestrian.{clearance_has_ended, may_walk_again, pedestrian_after, pedestrian_now, walks_again}
-use Rattle.tsb_phase.specs.Ready.{is_ready}
 use Rattle.tsb_phase.specs.Cells.{phase_of, pedestrian_of_row}
-use Rattle.tsb_phase.proofs.ReadyLemmas.{is_in_dont_walk, ready_is_in_dont_walk}
 use Rattle.tsb_phase.proofs.ToldLemmas.{walk-by}
 
 by_call : (b : Bool) → is_walk (if b then Walk else DontWalk) ≡ b
@@ -47,20 +44,3 @@ pub from_dont_walk : (plan : Plan) (given : Given) (p : ℕ) (w : Phase) (walks 
     walks ≡ may_walk_again given p w → pedestrian_now plan given p w ≡ (if walks then Walk else DontWalk)
 unfolding pedestrian_now
 from_dont_walk plan given p w walks e f = rw (e, f) refl
-
--- where a walk begins within a green, the phase is in Walk
-pub is_in_walk : (plan : Plan) (given : Given) (p : ℕ) (w : Phase) → walks_again given p w ≡ true → pedestrian_now plan given p w ≡ Walk
-is_in_walk plan given p w h =
-    let both = and_parts (is_dont_walk w.pedestrian) (may_walk_again given p w) h in
-    from_dont_walk plan given p w true (is_in_dont_walk w.pedestrian both.0) (sym both.1)
-
-no_walk_in_dont_walk : DontWalk ≡ Walk → ⊥
-no_walk_in_dont_walk e = cc
-
--- and is not ready
-pub not_ready : (plan : Plan) (given : Given) (p : ℕ) (w : Phase) → walks_again given p w ≡ true → is_ready plan given p w ≡ false
-not_ready plan given p w h =
-    elim (cases_Bool (is_ready plan given p w)) [
-      | inl ready ↦ absurd (no_walk_in_dont_walk (sym (ready_is_in_dont_walk plan given p w ready) ∙ is_in_walk plan given p w h))
-      | inr other ↦ other
-    ]

@@ -1,5 +1,5 @@
 -- The members of an object, one after another, and notes that are added.
-use Rattle.std.proofs.Common.{◌≡◌, ◌∙◌, ℕ, zero, suc, ◌+◌, ◌<◌, Bool, true, false, if◌then◌else◌, List, [], ◌∷◌, ◌++◌, append_assoc, length, drop, drop-cons, get_or, ap, inl, inr, refl, subst, sym, arith, IfOk, MatchResult, OnOk, Some, None, bytes_eq}
+use Rattle.std.proofs.Common.{◌≡◌, ◌∙◌, ℕ, zero, suc, ◌+◌, ◌<◌, Bool, true, false, if◌then◌else◌, List, [], ◌∷◌, ◌++◌, append_assoc, length, drop, get_or, ap, inl, inr, refl, subst, sym, arith, IfOk, MatchResult, OnOk, Some, None, bytes_eq}
 use Rattle.std.proofs.lemmas.Bool.{cases_Bool}
 use Rattle.std.proofs.lemmas.Option.{same_Some}
 use Rattle.std.proofs.lemmas.Str.{IsUtf8-from_is_utf8, is_utf8-from_IsUtf8}
@@ -16,14 +16,6 @@ use Rattle.json.specs.declared.error.Error.{Error}
 use Rattle.json.specs.declared.error.Error.TheVariants.{Invalid}
 use Rattle.json.specs.declared.value.Value.{Value}
 use Rattle.tsb_plan_notes.specs.Notes.{document_notes, next_of, notes_of, value_notes}
-
--- a member, and those after it
-pub view-step : {A : Type 0} (ms : List (Bor (List ℕ) × Value A)) (k : ℕ) (d : Bor (List ℕ) × Value A) → k < length ms
-    → members_view (drop k ms) ≡ member (get_or ms k d).0.now (value_view (get_or ms k d).1) (members_view (drop (k + 1) ms))
-view-step ms k d below =
-    let next : suc k ≡ k + 1 = omega arith in
-    ap members_view (drop-cons ms k d below)
-    ∙ ap (λ (n : ℕ). member (get_or ms k d).0.now (value_view (get_or ms k d).1) (members_view (drop n ms))) next
 
 -- its value has numbers, and so have those after it
 numbers-from : {A : Type 0} (ms : List (Bor (List ℕ) × Value A)) (k : ℕ) (d : Bor (List ℕ) × Value A) → k < length ms → MembersHaveNumbers (members_view ms)
@@ -46,12 +38,6 @@ next-numbers name (member key j rest) d h e = go (next-numbers name rest d h.1) 
     go : (next_of name rest ≡ Some d → HasNumbers d) → (b : Bool) → (if b then Some j else next_of name rest) ≡ Some d → HasNumbers d
     go later true is = subst HasNumbers (same_Some j d is) h.0
     go later false is = later is
-
--- a note more, of those that are left
-pub onto : (old new note left all : List ℕ) → new ≡ old ++ note → old ++ (note ++ left) ≡ all → new ++ left ≡ all
-onto old new note left all is so = ap (λ (ts : List ℕ). ts ++ left) is ∙ append_assoc old note left ∙ so
-
--- ## What a text is
 
 said : (text : List ℕ) → IsUtf8 text → notes_of text ≡ document_notes (document text)
 unfolding notes_of

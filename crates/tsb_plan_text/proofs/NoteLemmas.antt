@@ -1,19 +1,19 @@
 -- A plan text without its notes gives the same plan. Proves `notes_change_nothing`.
-use Rattle.std.proofs.Common.{◌≡◌, ℕ, ◌≤◌, nat_lt, nat_cmp, Bool, true, false, ◌||◌, List, length, Option, Some, None, Result, Ok, Err, if◌then◌else◌, codes, bytes_eq, refl, sym, ◌∙◌, ap, subst, arith}
+use Rattle.std.proofs.Common.{◌≡◌, ℕ, ◌≤◌, nat_lt, nat_cmp, Bool, true, false, List, length, Option, Some, Ok, if◌then◌else◌, codes, bytes_eq, refl, sym, ◌∙◌, ap, subst}
 use Rattle.std.proofs.lemmas.Bool.{le-ltb}
 use Rattle.std.proofs.lemmas.Slice.Eq.{bytes_eq-Decides}
 use Rattle.std.specs.Cmp.Lexicographic.{slice_cmp}
 use Rattle.std.specs.Ordering.{match_ordering}
 use Rattle.serde_json.specs.Data.{Data, Members, no_members, member, object}
-use Rattle.serde_json.specs.Find.{get_member, as_object}
+use Rattle.serde_json.specs.Find.{get_member}
 use Rattle.tsb_plan.specs.declared.version.Version.{Version}
 use Rattle.tsb_plan.specs.declared.version.Version.TheVariants.{One, Two, Three}
 use Rattle.tsb_plan.specs.Names.{object_named}
 use Rattle.tsb_plan.specs.Objects.{objects}
 use Rattle.tsb_plan.specs.Plan.{Plan, empty}
 use Rattle.tsb_plan_text.specs.NotesLaw.{without_notes}
-use Rattle.tsb_plan_text.specs.PlanErrors.{Error, not_json, not_a_table, no_version, no_such_object, too_large}
-use Rattle.tsb_plan_text.specs.PlanText.{limit, data_of, version_in, or_fault, then_on, with_object, is_notes, with_notes, with_member, with_members, data_plan, checked, reading}
+use Rattle.tsb_plan_text.specs.PlanErrors.{not_json, no_version}
+use Rattle.tsb_plan_text.specs.PlanText.{limit, data_of, version_in, or_fault, then_on, with_object, with_member, with_members, data_plan, checked, reading}
 use Rattle.tsb_plan_text.proofs.SaysLemmas.{or_ok, then_ok, short, notes_keep}
 
 -- a member of this name leaves the plan: texts of versions 1 and 2 with it give none

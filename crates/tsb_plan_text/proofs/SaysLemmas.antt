@@ -17,7 +17,6 @@ use Rattle.tsb_plan.specs.declared.object.Object.{Object}
 use Rattle.tsb_plan.specs.declared.version.Version.{Version}
 use Rattle.tsb_plan.specs.declared.version.Version.TheVariants.{One, Two, Three}
 use Rattle.tsb_plan.specs.Names.{name_of, object_named}
-use Rattle.tsb_plan.specs.Objects.{order}
 use Rattle.tsb_plan.specs.Plan.{Plan, empty, with_value, is_same}
 use Rattle.tsb_plan.specs.VersionLaws.{TranslateApart}
 use Rattle.tsb_plan.specs.Versions.{has_object, has_index_in, indices_in, greatest_in, translated}
@@ -255,9 +254,6 @@ rise_in (boolean b) table e h = absurd (grind (arith, e))
 rise_in (number n) table e h = absurd (grind (arith, e))
 rise_in (string s) table e h = absurd (grind (arith, e))
 rise_in (array ds) table e h = absurd (grind (arith, e))
-
-same_object : (o p : Object) → (order o ≡ order p → ⊥) → o ≡ p → ⊥
-same_object o p ne e = ne (ap order e)
 
 members_say : TranslateApart → (v : Version) (ms : Members) (p q : Plan) → AllRise ms → with_members v ms p ≡ Ok q →
     (o : Object) (i : ℕ) → has_index_in v o i ≡ true → q.value o (translated v o i) ≡ or_number (number_for ms o i) (p.value o (translated v o i))

@@ -7,7 +7,7 @@ use Rattle.std.specs.Io.KnownBytes.{Appends}
 use Rattle.tsb_lines.proofs.StreamLemmas.{appends-more}
 use Rattle.tsb_lines.specs.Writes.{AppendsFront}
 use Rattle.tsb_plan_text.specs.declared.error.PlanError.{PlanError}
-use Rattle.tsb_program.specs.Lines.{TellsEnd, end_line}
+use Rattle.tsb_program.specs.Lines.{TellsEnd}
 use Rattle.tsb_program.specs.Told.{RefusesAt, TellsInputEnd, TellsNoPlan, TellsWhy}
 use Rattle.tsb_program.specs.declared.read.PlanFault.{PlanFault}
 use Rattle.tsb_program.specs.declared.read.ReadError.{ReadError}
@@ -38,13 +38,6 @@ both-whole (Err e) old mid new x y first second = tt
 pub refused-so : (fault : PlanFault) (name : List ℕ) (why : PlanError) (status : ℕ) (told tells : Seen) → fault.why ≡ Refused why → RefusesAt why fault.clue status told tells
     → TellsNoPlan name fault status told tells
 refused-so fault name why status told tells is so = subst (λ (w : ReadError PlanError). TellsWhy name w fault.clue status told tells) (sym is) so
-
--- the line of what ended a session is told, with 3
-pub end-told : (fault : SessionError) (status : ℕ) (told tells : Seen) → status ≡ 3 → Tells told tells (end_line fault) → TellsEnd fault status told tells
-end-told ends.Memory status told tells is line = (is, line)
-end-told ends.Read status told tells is line = (is, line)
-end-told ends.Write status told tells is line = (is, line)
-end-told ends.TooLarge status told tells is line = (is, line)
 
 -- but for a read, standard input or a file is all one
 pub input-told : (fault : SessionError) (status : ℕ) (told tells : Seen) → (fault ≡ ends.Read → ⊥) → TellsEnd fault status told tells → TellsInputEnd fault status told tells

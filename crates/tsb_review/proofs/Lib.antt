@@ -1,4 +1,3 @@
-pub mod HeldLemmas
 pub mod LoopLemmas
 pub mod ScheduleLemmas
 pub use Rattle.tsb_plan.proofs as tsb_plan

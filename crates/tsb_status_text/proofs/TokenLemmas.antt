@@ -5,11 +5,11 @@ use Rattle.json.specs.Json.{Members, no_members}
 use Rattle.json.specs.Token.{Token}
 use Rattle.json.specs.Tree.{json_tokens, members_tokens}
 use Rattle.tsb_plan.specs.declared.object.Object.{Object}
-use Rattle.tsb_plan.specs.Objects.{objects, indices}
+use Rattle.tsb_plan.specs.Objects.{objects}
 use Rattle.tsb_plan.specs.Plan.{Plan}
 use Rattle.tsb_plan.specs.Versions.{number_of}
 use Rattle.tsb_objects.specs.tsb_types.Lists.{run_from}
-use Rattle.tsb_status_text.specs.PlanLine.{entries, members_of, plan_json, table, version_for, with_entry}
+use Rattle.tsb_status_text.specs.PlanLine.{entries, members_of, plan_json, version_for, with_entry}
 
 -- the values from an index on are that at it, and those after it
 pub entries-more : (plan : Plan) (o : Object) (a b : ℕ) → a < b →
@@ -21,11 +21,6 @@ entries-more plan o a b below = let e : b - a ≡ suc (b - (a + 1)) = omega arit
 pub entries-end : (plan : Plan) (o : Object) (a b : ℕ) → b ≤ a → entries plan o (run_from a (b - a)) ≡ no_members
 unfolding run_from
 entries-end plan o a b above = let e : b - a ≡ 0 = omega arith in rw e refl
-
--- all of them are the table
-pub entries-all : (plan : Plan) (o : Object) → entries plan o (run_from 1 (indices o + 1 - 1)) ≡ table plan o
-unfolding table
-entries-all plan o = let e : indices o + 1 - 1 ≡ indices o = omega arith in rw e refl
 
 -- a value is written, unless it is 0
 pub entry-on : (plan : Plan) (o : Object) (a b v : ℕ) (old new all : List Token) → a < b → v ≡ plan.value o a →

@@ -1,5 +1,5 @@
 -- After every run each overlap that has intervals of its own is lit by phases: inputs of every kind keep it so.
-use Rattle.std.proofs.Common.{◌≡◌, ℕ, ◌+◌, ◌≤◌, ◌<◌, ◌==◌, Bool, true, false, not, ◌&&◌, ◌||◌, if◌then◌else◌, List, [], ◌∷◌, Option, Some, None, is_some, refl, sym, subst, ap, arith, ◌∙◌, inl, inr, ◌⊎◌}
+use Rattle.std.proofs.Common.{◌≡◌, ℕ, ◌+◌, ◌≤◌, Bool, true, false, not, ◌&&◌, if◌then◌else◌, List, [], ◌∷◌, Option, Some, None, is_some, refl, sym, subst, ap, arith, ◌∙◌, inl, inr, ◌⊎◌}
 use Rattle.std.specs.List.{list_any}
 use Rattle.std.proofs.lemmas.Bool.{cases_Bool, and_parts, or_right, or_cases, true≢false, false≢true, false_from_ne_true, leb-true}
 use Rattle.std.proofs.lemmas.Bool.Decides.{nat_tests}
@@ -10,7 +10,7 @@ use Rattle.tsb_types.specs.declared.interval.Interval.{Interval}
 use Rattle.tsb_types.specs.declared.interval.Interval.TheVariants as intervals
 use Rattle.tsb_types.specs.declared.lamp.Lamp.{Lamp}
 use Rattle.tsb_types.specs.declared.row.Row.{Row}
-use Rattle.tsb_types.specs.Intervals.{is_green, is_yellow, is_red_clear, in_service}
+use Rattle.tsb_types.specs.Intervals.{is_green, is_yellow, in_service}
 use Rattle.tsb_types.specs.Lists.{among, first, run_from}
 use Rattle.tsb_types.specs.Sets.{names}
 use Rattle.tsb_types.proofs.FirstLemmas.{first-any, first-passes, first-within}
@@ -18,7 +18,7 @@ use Rattle.tsb_types.proofs.RunLemmas.{among-run, any-at}
 use Rattle.tsb_objects.specs.tsb_plan.declared.object.Object.TheVariants.{OverlapModifierPhases}
 use Rattle.tsb_objects.specs.tsb_plan.Parts.{heeds_pedestrians, is_arrow, is_included, is_modifier, is_timed, trails}
 use Rattle.tsb_objects.specs.tsb_plan.Plan.{Plan, phases, yellow_change}
-use Rattle.tsb_objects.specs.tsb_rules.Consistent.{IsArrowSound, IsPhase}
+use Rattle.tsb_objects.specs.tsb_rules.Consistent.{IsArrowSound}
 use Rattle.tsb_phase.specs.Phase.{Phase}
 use Rattle.tsb_phase.specs.Ready.{yellow_is_done}
 use Rattle.tsb_heads.specs.Overlaps.{IsOverlap, is_kept_green}
@@ -27,7 +27,7 @@ use Rattle.tsb_transact.specs.Commit.{changes_structure}
 use Rattle.tsb_overlap.specs.declared.parts.OverlapInterval.{OverlapInterval}
 use Rattle.tsb_overlap.specs.declared.parts.OverlapInterval.TheVariants.{Red, Green, TrailGreen, Flashing, Yellow, RedClear}
 use Rattle.tsb_overlap.specs.Overlap as overlaps
-use Rattle.tsb_overlap.specs.Overlap.{Overlap, Given, standing, begun, yellow_of, as_read, run_on, trail_by, is_held, holds, is_trailing, may_flash, is_open_to, turn_of, ended_flash, settled}
+use Rattle.tsb_overlap.specs.Overlap.{Overlap, Given, yellow_of, as_read, run_on, is_held, holds, is_trailing, may_flash, is_open_to, turn_of, ended_flash, settled}
 use Rattle.tsb_step.specs.Backed.{IsOpposed, IsYellowBy, PointsBy, IsTrailed, TrailsBy, IsBacked, AreBacked, IsGoodInAll}
 use Rattle.tsb_step.specs.declared.inputs.Input.{Input}
 use Rattle.tsb_step.specs.declared.inputs.Input.TheVariants as inputs
@@ -44,7 +44,7 @@ use Rattle.tsb_step.proofs.ArrowLemmas.{YellowIs, BecomesArrow, turns, flashes, 
 use Rattle.tsb_step.proofs.TrailLemmas as trail
 use Rattle.tsb_overlap.proofs.DueLemmas.{trail-run_on}
 use Rattle.tsb_step.proofs.TrailLemmas.{BecomesTrail, Holds, trail_after}
-use Rattle.tsb_step.proofs.TurnLemmas.{arrow_turn, trailing_placed, trails_no_arrow}
+use Rattle.tsb_step.proofs.TurnLemmas.{arrow_turn, trailing_placed}
 use Rattle.tsb_step.proofs.ClearLemmas.{started_was_free, phases_then}
 use Rattle.tsb_step.proofs.CommitLemmas.{still}
 use Rattle.tsb_step.proofs.EditLemmas.{or_false}

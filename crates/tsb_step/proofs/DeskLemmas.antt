@@ -95,11 +95,6 @@ unfolding step
 commit_puts s (Commit station) commits = refl
 commit_puts s i commits = cc
 
-pub commits_leave_no_edits : (s : State) (i : Input) → is_commit i ≡ true → (step s i).desk ≡ closed
-unfolding step
-commits_leave_no_edits s (Commit station) commits = refl
-commits_leave_no_edits s i commits = cc
-
 -- an input that is no commit is what it is by any station
 pub is_itself : (i : Input) → is_commit i ≡ false → by_any_station i ≡ i
 is_itself (Commit station) commits = cc

@@ -1,6 +1,6 @@
 -- Displays are safe, green arrows among them: the green of an arrow goes with its turn.
-use Rattle.std.proofs.Common.{◌≡◌, ℕ, Bool, true, false, ◌||◌, if◌then◌else◌, is_some, refl, sym, subst, ap, inl, inr, ◌⊎◌, ◌∙◌}
-use Rattle.std.proofs.lemmas.Bool.{or_cases, true≢false, false≢true, false_from_ne_true}
+use Rattle.std.proofs.Common.{◌≡◌, ℕ, Bool, true, false, if◌then◌else◌, is_some, refl, sym, subst, ◌⊎◌, ◌∙◌}
+use Rattle.std.proofs.lemmas.Bool.{true≢false, false≢true, false_from_ne_true}
 use Rattle.tsb_types.specs.declared.interval.Interval.TheVariants as intervals
 use Rattle.tsb_types.specs.declared.lamp.Aspect.{Aspect}
 use Rattle.tsb_types.specs.declared.lamp.Aspect.TheVariants as aspects
@@ -14,7 +14,7 @@ use Rattle.tsb_heads.proofs.ArrowLemmas.{green-arrow}
 use Rattle.tsb_heads.proofs.MonitorLemmas.{safe_phases_are_safe}
 use Rattle.tsb_overlap.specs.declared.parts.OverlapInterval.{OverlapInterval}
 use Rattle.tsb_overlap.specs.declared.parts.OverlapInterval.TheVariants.{Red, Green, TrailGreen, Flashing, Yellow, RedClear}
-use Rattle.tsb_overlap.specs.Overlap.{light, turn_of}
+use Rattle.tsb_overlap.specs.Overlap.{light}
 use Rattle.tsb_step.specs.Backed.{PointsBy, AreBacked}
 use Rattle.tsb_step.specs.State.{State, interval}
 use Rattle.tsb_step.specs.Signs.{shown, display, IsSafe}

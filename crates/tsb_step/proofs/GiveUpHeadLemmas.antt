@@ -1,10 +1,10 @@
 -- What rings give up changes no head, and what they are still committed to under a preempt that chooses anew is wanted.
-use Rattle.std.proofs.Common.{◌≡◌, ℕ, ◌+◌, ◌==◌, Bool, true, false, not, if◌then◌else◌, Option, Some, None, is_some, option_map, refl, sym, ap, subst, ◌∙◌, inl, inr, ◌⊎◌}
+use Rattle.std.proofs.Common.{◌≡◌, ℕ, ◌+◌, ◌==◌, Bool, true, false, not, if◌then◌else◌, Option, Some, None, is_some, option_map, refl, sym, ap, ◌∙◌, inl, inr, ◌⊎◌}
 use Rattle.std.proofs.lemmas.Bool.{cases_Bool, and_parts, true≢false, false≢true, false_from_ne_true}
 use Rattle.tsb_types.specs.declared.row.Row.{Row}
 use Rattle.tsb_types.specs.Lists.{run_from}
 use Rattle.tsb_objects.specs.tsb_plan.Parts.{is_anew, is_timed}
-use Rattle.tsb_objects.specs.tsb_plan.Plan.{Plan, is_enabled}
+use Rattle.tsb_objects.specs.tsb_plan.Plan.{is_enabled}
 use Rattle.tsb_heads.specs.Overlaps.{is_kept_green, lasts, IsOverlap, some_lasts, is_on_yellow, has_green_modifier, has_yellow_modifier, is_on_last_yellow, overlap_head}
 use Rattle.tsb_heads.specs.Reading.{commitment_of}
 use Rattle.tsb_heads.proofs.LastingLemmas.{kept-left, head-left, none-lasts}

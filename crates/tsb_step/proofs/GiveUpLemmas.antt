@@ -1,17 +1,15 @@
 -- The rings after a tick: they have acted on their moves, and then given up what strays from the target of a preempt that
 -- chooses anew, or nothing.
-use Rattle.std.proofs.Common.{◌≡◌, ℕ, Bool, true, false, not, ◌&&◌, if◌then◌else◌, Option, Some, None, is_none, refl, sym, ap, subst, ◌∙◌, inl, inr, ◌⊎◌}
-use Rattle.std.proofs.lemmas.Bool.{cases_Bool, and_parts, true≢false, false≢true}
-use Rattle.tsb_types.specs.declared.interval.Interval.{Interval}
+use Rattle.std.proofs.Common.{◌≡◌, ℕ, Bool, true, false, not, ◌&&◌, if◌then◌else◌, Some, None, refl, ap}
+use Rattle.std.proofs.lemmas.Bool.{and_parts, false≢true}
 use Rattle.tsb_types.specs.declared.row.Row.{Row}
 use Rattle.tsb_objects.specs.tsb_plan.Parts.{is_anew}
-use Rattle.tsb_objects.specs.tsb_plan.Plan.{Plan}
 use Rattle.tsb_ring.specs.Rings as rings
 use Rattle.tsb_ring.specs.Rings.{Ring}
 use Rattle.tsb_ring.specs.Next as rings_next
 use Rattle.tsb_ring.specs.GivenUp.{given_up}
-use Rattle.tsb_ring.proofs.GivenUpLemmas.{crossing_left, last_stays, no_crossing_given, outside_left, side_stays, was_before}
-use Rattle.tsb_step.specs.State.{State, interval}
+use Rattle.tsb_ring.proofs.GivenUpLemmas.{crossing_left, no_crossing_given, outside_left, was_before}
+use Rattle.tsb_step.specs.State.{State}
 use Rattle.tsb_step.specs.Signs.{is_lasting}
 use Rattle.tsb_step.specs.Tick.{service, target, rings_given, after_moves, gives_up, new_rings, after_rings, next}
 
@@ -28,14 +26,6 @@ keeps_all s row h = ap (λ (x : rings.State). record (after_moves s row) { rings
 pub gives_none : (s : State) (row : Row) → is_anew s.plan (service s row) ≡ false → gives_up s row ≡ false
 unfolding gives_up
 gives_none s row h = rw h refl
-
--- where no preempt is in service
-unserved : (plan : Plan) (o : Option ℕ) → is_none o ≡ true → is_anew plan o ≡ false
-unserved plan None h = refl
-unserved plan (Some n) h = absurd (false≢true h)
-
-pub gives_none_unserved : (s : State) (row : Row) → is_none (service s row) ≡ true → gives_up s row ≡ false
-gives_none_unserved s row h = gives_none s row (unserved s.plan (service s row) h)
 
 pub gives_none_alone : (s : State) (row : Row) → service s row ≡ None → gives_up s row ≡ false
 gives_none_alone s row e = gives_none s row (ap (is_anew s.plan) e)
@@ -84,14 +74,6 @@ pub crossing_by_moves : (s : State) (row : Row) (d : ℕ) → (next s row).rings
 crossing_by_moves s row d =
     by_rings (λ (x : rings.State). x.crossing ≡ Some d → x ≡ (after_moves s row).rings) s row (λ h. refl)
     (λ h. crossing_left s.plan (target s row) (after_moves s row).rings d h)
-
-pub side_by_moves : (s : State) (row : Row) → (next s row).rings.side ≡ (after_moves s row).rings.side
-side_by_moves s row =
-    by_rings (λ (x : rings.State). x.side ≡ (after_moves s row).rings.side) s row refl (side_stays s.plan (target s row) (after_moves s row).rings)
-
-pub last_by_moves : (s : State) (row : Row) (r : Ring) → (next s row).rings.last r ≡ (after_moves s row).rings.last r
-last_by_moves s row r =
-    by_rings (λ (x : rings.State). x.last r ≡ (after_moves s row).rings.last r) s row refl (last_stays s.plan (target s row) (after_moves s row).rings r)
 
 -- no crossing comes of what is given up; and where a commitment is left, none was under way before
 pub outside_then : (s : State) (row : Row) → (after_moves s row).rings.crossing ≡ None → (next s row).rings.crossing ≡ None

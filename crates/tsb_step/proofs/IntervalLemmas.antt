@@ -13,7 +13,7 @@ use Rattle.tsb_phase.specs.Ready.{is_over, is_over_in}
 use Rattle.tsb_ring.specs.Moves.{is_ended, is_cleared, interval_after}
 use Rattle.tsb_ring.proofs.MoveLemmas.{ends_ready, clears_over}
 use Rattle.tsb_step.specs.State.{State, interval}
-use Rattle.tsb_step.specs.Tick.{rings_given, moves, moved, phase_read, yellow_done, over, next}
+use Rattle.tsb_step.specs.Tick.{rings_given, moves, moved, phase_read, yellow_done, next}
 use Rattle.tsb_step.proofs.HoldLemmas.{taken_over}
 
 -- a phase that is over clears

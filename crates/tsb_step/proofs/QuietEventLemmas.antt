@@ -17,7 +17,7 @@ use Rattle.tsb_types.proofs.EventLemmas.{none-told, none-told_detectors}
 use Rattle.tsb_types.proofs.NumberLemmas.{filter-none}
 use Rattle.tsb_coord.specs.declared.cycle.CycleState.{CycleState}
 use Rattle.tsb_coord.specs.declared.cycle.CycleState.TheVariants as cycles
-use Rattle.tsb_coord.specs.Cycle.{comes_to_zero, cycle_state, number_of, yields}
+use Rattle.tsb_coord.specs.Cycle.{cycle_state, number_of, yields}
 use Rattle.tsb_calls.specs.Callable.{is_recalled}
 use Rattle.tsb_calls.specs.Standing as standing
 use Rattle.tsb_detect.specs.Detector as detector

@@ -1,7 +1,7 @@
 -- Good states show phases that go together: what has right of way is in service, and what is in service together is
 -- concurrent.
-use Rattle.std.proofs.Common.{◌≡◌, ℕ, Bool, true, false, if◌then◌else◌, is_some, refl, sym, inl, inr, ◌⊎◌, ◌∙◌}
-use Rattle.std.proofs.lemmas.Bool.{cases_Bool, true≢false, false≢true}
+use Rattle.std.proofs.Common.{◌≡◌, ℕ, Bool, true, false, if◌then◌else◌, refl, inl, inr, ◌⊎◌}
+use Rattle.std.proofs.lemmas.Bool.{cases_Bool, false≢true}
 use Rattle.tsb_types.specs.declared.interval.Interval.{Interval}
 use Rattle.tsb_types.specs.declared.interval.Interval.TheVariants.{Red, Green, Yellow, RedClear}
 use Rattle.tsb_types.specs.declared.interval.PedestrianInterval.{PedestrianInterval}
@@ -12,7 +12,7 @@ use Rattle.tsb_types.specs.declared.lamp.PedestrianAspect.TheVariants as pedestr
 use Rattle.tsb_types.specs.declared.row.Row.{Row}
 use Rattle.tsb_types.specs.Intervals.{in_service, is_green}
 use Rattle.tsb_objects.specs.tsb_plan.Plan.{is_enabled, is_concurrent}
-use Rattle.tsb_heads.specs.Heads.{Heads, aspect_of, vehicle_head, pedestrian_aspect_of, has_pedestrian_head, pedestrian_head}
+use Rattle.tsb_heads.specs.Heads.{aspect_of, vehicle_head, pedestrian_aspect_of, has_pedestrian_head, pedestrian_head}
 use Rattle.tsb_heads.specs.Displays.{ordered}
 use Rattle.tsb_heads.specs.Monitoring.{gives_way, lets_walk, has_right_of_way, AreSafeByPhases}
 use Rattle.tsb_ring.specs.declared.ring_order.RingOrder.{RingOrder}
@@ -22,7 +22,7 @@ use Rattle.tsb_ring.proofs.MoveLemmas.{or_cases}
 use Rattle.tsb_ring.proofs.SafetyLemmas.{sound_is_safe}
 use Rattle.tsb_ring.proofs.WaitLemmas.{starts_wait}
 use Rattle.tsb_step.specs.State.{State, interval, pedestrian_part}
-use Rattle.tsb_step.specs.Tick.{rings_given, moves, over, held, after_moves}
+use Rattle.tsb_step.specs.Tick.{rings_given, moves, held, after_moves}
 use Rattle.tsb_step.specs.Signs.{shown}
 use Rattle.tsb_step.specs.Laws.{ServesTogether, StartsWaiting, ServesPreempt}
 use Rattle.tsb_step.specs.Good.{IsGood}

@@ -1,5 +1,5 @@
 -- An arrow or an overlap that trails which turns red has shown yellow for the last 30 ticks, through inputs of every kind.
-use Rattle.std.proofs.Common.{◌≡◌, ◌≢◌, ℕ, suc, ◌+◌, ◌≤◌, Bool, true, false, ◌&&◌, ◌||◌, if◌then◌else◌, List, [], ◌∷◌, Option, Some, None, is_some, refl, sym, ap, subst, arith, ◌∙◌, inl, inr, ◌⊎◌}
+use Rattle.std.proofs.Common.{◌≡◌, ◌≢◌, ℕ, ◌+◌, ◌≤◌, Bool, true, false, if◌then◌else◌, List, [], ◌∷◌, Option, Some, None, is_some, refl, sym, ap, subst, arith, ◌∙◌, inl, inr, ◌⊎◌}
 use Rattle.std.proofs.lemmas.Bool.{cases_Bool, and_parts, or_cases, true≢false, false≢true}
 use Rattle.tsb_cells.specs.declared.timer.Timer.{Timer}
 use Rattle.tsb_cells.specs.declared.timer.Timer.TheVariants.{Off, On}
@@ -12,14 +12,12 @@ use Rattle.tsb_types.specs.declared.lamp.Lamp.{Lamp}
 use Rattle.tsb_types.specs.declared.row.Row.{Row}
 use Rattle.tsb_types.specs.Intervals.{in_service}
 use Rattle.tsb_types.specs.Lists.{among}
-use Rattle.tsb_objects.specs.tsb_plan.declared.object.Object.TheVariants.{OverlapIncludedPhases}
-use Rattle.tsb_objects.specs.tsb_plan.Parts.{includes_none, is_arrow, is_included, is_modifier, is_timed, trails, trail_yellow}
+use Rattle.tsb_objects.specs.tsb_plan.Parts.{is_arrow, is_included, is_modifier, is_timed, trails, trail_yellow}
 use Rattle.tsb_objects.specs.tsb_plan.Plan.{Plan, phases, is_enabled, yellow_change}
 use Rattle.tsb_objects.specs.tsb_rules.Consistent.{IsArrowSound}
-use Rattle.tsb_heads.specs.Overlaps.{overlap_head}
 use Rattle.tsb_overlap.specs.declared.parts.OverlapInterval.{OverlapInterval}
 use Rattle.tsb_overlap.specs.declared.parts.OverlapInterval.TheVariants.{Red, Green, TrailGreen, Flashing, Yellow, RedClear}
-use Rattle.tsb_overlap.specs.Overlap.{Overlap, standing, begun, as_read, light, is_trailing, ended_flash}
+use Rattle.tsb_overlap.specs.Overlap.{Overlap, as_read, light, ended_flash}
 use Rattle.tsb_step.specs.declared.inputs.Input.{Input}
 use Rattle.tsb_step.specs.declared.inputs.Input.TheVariants as inputs
 use Rattle.tsb_step.specs.declared.inputs.Input.TheVariants.{Tick}
@@ -27,7 +25,7 @@ use Rattle.tsb_step.specs.Backed.{IsYellowBy, PointsBy, IsTrailed, TrailsBy, Are
 use Rattle.tsb_step.specs.Events.{is_by}
 use Rattle.tsb_step.specs.State.{State, Tripped, restarted, interval}
 use Rattle.tsb_step.specs.Tick.{overlaps_given, next}
-use Rattle.tsb_step.specs.Signs.{shown, display, watched}
+use Rattle.tsb_step.specs.Signs.{display, watched}
 use Rattle.tsb_step.specs.Step.{with_lamp, step, verdict, kind_of}
 use Rattle.tsb_step.specs.Runs.{replay, AreTaken}
 use Rattle.tsb_step.specs.Past.{ticks_of}
@@ -42,7 +40,7 @@ use Rattle.tsb_step.proofs.BackedLemmas.{backed_run}
 use Rattle.tsb_step.proofs.ClearLemmas.{plan_stays}
 use Rattle.tsb_step.proofs.GivenLemmas.{listed_is_phase}
 use Rattle.tsb_step.proofs.GoodLemmas.{good_run}
-use Rattle.tsb_step.proofs.OverlapLemmas.{IsOf, is_clearing, clearing_serves}
+use Rattle.tsb_step.proofs.OverlapLemmas.{clearing_serves}
 use Rattle.tsb_step.proofs.SightLemmas.{SameSight}
 use Rattle.tsb_step.proofs.SightRunLemmas.{included_enabled, same_sight}
 use Rattle.tsb_step.proofs.TellLemmas.{dark_before, held_on}

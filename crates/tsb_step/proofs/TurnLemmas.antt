@@ -1,8 +1,7 @@
 -- The turn of an arrow, and overlaps that trail, in a plan that breaks no rule.
-use Rattle.std.proofs.Common.{◌≡◌, ◌≢◌, ℕ, ◌≤◌, ◌==◌, nat_le, Bool, true, false, not, ◌&&◌, ◌||◌, refl, sym, arith, ◌∙◌, inl, inr}
+use Rattle.std.proofs.Common.{◌≡◌, ◌≢◌, ℕ, ◌==◌, nat_le, true, false, not, refl, sym, arith, ◌∙◌, inl, inr}
 use Rattle.std.proofs.lemmas.Bool.{cases_Bool, and_parts, eqb-true, true≢false}
 use Rattle.std.proofs.lemmas.Bool.Decides.{nat_tests}
-use Rattle.tsb_objects.specs.tsb_plan.declared.object.Object.{Object}
 use Rattle.tsb_objects.specs.tsb_plan.declared.object.Object.TheVariants.{OverlapTrailGreen, OverlapType}
 use Rattle.tsb_objects.specs.tsb_plan.Parts.{includes_none, is_arrow, trails}
 use Rattle.tsb_objects.specs.tsb_plan.Plan.{Plan}

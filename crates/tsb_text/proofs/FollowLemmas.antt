@@ -30,7 +30,7 @@ use Rattle.tsb_log_text.specs.declared.log.LogRow.{LogRow}
 use Rattle.tsb_text.specs.declared.course.Mode.{Mode}
 use Rattle.tsb_text.specs.declared.course.Mode.TheVariants.{Plain, Keeping as KeepsInputs, Telling as TellsEvents, Recording}
 use Rattle.tsb_text.specs.Answers.{Leads, Setup, followers, followers_of}
-use Rattle.tsb_text.specs.Obeyed.{Followed, FollowedAll, FollowsNone, HasRow, IsFollower, IsNext, IsPopped, NextAfter, OnCourse, Stands, Took, next_in}
+use Rattle.tsb_text.specs.Obeyed.{Followed, FollowedAll, FollowsNone, HasRow, IsFollower, IsNext, NextAfter, OnCourse, Stands, Took, next_in}
 use Rattle.tsb_text.specs.Wanting.{IsWanting, LacksBeside, WantsAfter}
 use Rattle.tsb_text.proofs.CourseLemmas.{follows-state}
 
@@ -119,20 +119,6 @@ pub omits-other : (plan : Plan) (a list found : ℕ) (omitted : ℕ → Bool) �
     → omits plan (Some a) omitted ≡ Some (inputs.Omit list)
 omits-other plan a list found omitted is fits same other =
     rw (ne_eqb (omitted_by plan a) (list_of OVERLAPS omitted) (λ e. other (is ∙ e ∙ sym (omitted-list found omitted fits same)))) (ap (λ (l : ℕ). Some (inputs.Omit l)) (sym is))
-
--- the first is taken out: the pattern, or where there is none the list
-pub pop-pattern : (pattern after list : Option ℕ) (n : ℕ) → pattern ≡ Some n → after ≡ None → IsPopped (Some (inputs.Pattern n)) (next_in pattern list) (next_in after list)
-pop-pattern pattern after list n was none = rw (was, none) (front list, tt)
-  where
-    front : (list : Option ℕ) → next_in (Some n) list ≡ inputs.Pattern n ∷ next_in None list
-    front None = refl
-    front (Some l) = refl
-
-pub pop-list : (pattern rest list after : Option ℕ) (l : ℕ) → pattern ≡ None → rest ≡ None → list ≡ Some l → after ≡ None → IsPopped (Some (inputs.Omit l)) (next_in pattern list) (next_in rest after)
-pop-list pattern rest list after l no_pattern none was left = rw (no_pattern, none, was, left) (refl, tt)
-
-pub pop-nothing : (pattern rest list after : Option ℕ) → pattern ≡ None → rest ≡ None → list ≡ None → after ≡ None → IsPopped None (next_in pattern list) (next_in rest after)
-pop-nothing pattern rest list after no_pattern none no_list left = rw (no_pattern, none, no_list, left) (refl, refl)
 
 -- ## A course
 

@@ -16,7 +16,7 @@ use Rattle.tsb_objects.specs.tsb_types.declared.refusal.Refusal.{Refusal}
 use Rattle.tsb_text.specs.declared.course.Mode.{Mode}
 use Rattle.tsb_text.specs.declared.course.Mode.TheVariants.{Plain}
 use Rattle.tsb_text.specs.Obeyed as obeyed
-use Rattle.tsb_text.specs.Obeyed.{Done, IsKept, IsTold, OnCourse, Stands, StandsPlain, besides_of, tells_in}
+use Rattle.tsb_text.specs.Obeyed.{Done, IsTold, OnCourse, StandsPlain, besides_of, tells_in}
 use Rattle.tsb_text.specs.Obeys.{Besides, Obeys, nothing_besides}
 use Rattle.tsb_text.specs.Tasks.{task_of}
 use Rattle.tsb_text.proofs.ObeyLemmas.{plain-answers}

@@ -1,5 +1,5 @@
 -- Texts of sessions: there is one for all bytes, and of a long line the first bytes tell as much as all.
-use Rattle.std.proofs.Common.{◌≡◌, ℕ, ◌+◌, ◌<◌, ◌≤◌, List, [], ◌∷◌, ◌++◌, length, refl, sym, ap, ◌∙◌, arith, rules, subst, zero, suc, true, false, cond, eqb, Bool, length-append, map, ◌⊎◌, inl, inr, nat_lt, Some, None}
+use Rattle.std.proofs.Common.{◌≡◌, ℕ, ◌+◌, ◌<◌, ◌≤◌, List, [], ◌∷◌, ◌++◌, length, refl, sym, arith, rules, subst, zero, suc, true, false, cond, eqb, Bool, length-append, ◌⊎◌, inl, inr, nat_lt, Some, None}
 use Rattle.std.proofs.lemmas.Bool.Decides.{eqb_tells}
 use Rattle.std.specs.declared.option.Option.{Option}
 use Rattle.tsb_objects.specs.tsb_types.declared.refusal.Refusal.{Refusal}
@@ -178,22 +178,3 @@ text-kept given is line more t f x =
     at : (ls : List (List ℕ)) → IsAnswered given is (ended (onto_line (kept 202 line) ls)) t → IsAnswered given is (ended (onto_line line ls)) t
     at [] a = kept-first given is line [] [] t a
     at (l ∷ ls) a = kept-first given is line l ls t a
-
--- so each line is read as it would be whole
-first-read : (line l : List ℕ) (ls : List (List ℕ)) → map reading (ended ((kept 202 line ++ l) ∷ ls)) ≡ map reading (ended ((line ++ l) ∷ ls))
-first-read line l [] =
-    ap (λ (r : Reading). r ∷ [])
-    (kept-tells (λ (v : List ℕ). reading (v ++ l)) 202 Bad (λ v long. let all : length (v ++ l) ≡ length v + length l = length-append v l in reading-long (v ++ l) (omega (arith, all, long))) line)
-first-read line l (k ∷ ks) =
-    ap (λ (r : Reading). r ∷ map reading (ended (k ∷ ks)))
-    (kept-tells (λ (v : List ℕ). reading (without_return (v ++ l))) 202 Bad (λ v long. let all : length (v ++ l) ≡ length v + length l = length-append v l in reading-returned (v ++ l) (omega (arith, all, long))) line)
-
-pub lines-read : (line more : List ℕ) → HasNoFeed line → map reading (lines_of (kept 202 line ++ more)) ≡ map reading (lines_of (line ++ more))
-unfolding onto_line
-lines-read line more f =
-    ap (λ (ls : List (List ℕ)). map reading (ended ls)) (split-front (kept 202 line) more (feedless-kept 202 line f)) ∙ at (split more)
-    ∙ sym (ap (λ (ls : List (List ℕ)). map reading (ended ls)) (split-front line more f))
-  where
-    at : (ls : List (List ℕ)) → map reading (ended (onto_line (kept 202 line) ls)) ≡ map reading (ended (onto_line line ls))
-    at [] = first-read line [] []
-    at (l ∷ ls) = first-read line l ls

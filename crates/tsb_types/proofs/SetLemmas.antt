@@ -5,9 +5,8 @@ use Rattle.std.proofs.lemmas.Bool.{and_parts, eqb-true}
 use Rattle.std.proofs.lemmas.Nat.Bits.{bit_at_lowest, bit_at-suc, bit_at-zero, bit_at-lt, bit_at_above, same_from_bits_below}
 use Rattle.tsb_types.specs.declared.detector_set.DetectorSet.{DetectorSet}
 use Rattle.tsb_types.specs.declared.number_set.NumberSet.{NumberSet}
-use Rattle.tsb_types.specs.declared.phase_set.PhaseSet.{PhaseSet}
 use Rattle.tsb_types.specs.declared.row.Row.{Row}
-use Rattle.tsb_types.specs.Sets.{names, has_number, has_detector, has, is_same_row, is_same_set, is_same_detectors, number_of_bits, list_of}
+use Rattle.tsb_types.specs.Sets.{names, has_number, has_detector, is_same_row, is_same_set, is_same_detectors, number_of_bits, list_of}
 
 -- the lowest bit of a word, and the word without it
 pub lowest : (b : Bool) (m : ℕ) → (((if b then 1 else 0) + 2 * m) % 2 == 1) ≡ b
@@ -95,11 +94,6 @@ pub same_detectors : (s t : DetectorSet) → s.word < 2 ^ 64 → t.word < 2 ^ 64
 same_detectors s t p q same =
     ap (λ (w : ℕ). let made : DetectorSet = record { word = w } in made) (same_names 64 s.word t.word p q (λ d from within. same d))
 
-pub same_phases : (s t : PhaseSet) → s.numbers.word < 2 ^ 16 → t.numbers.word < 2 ^ 16 → ((p : ℕ) → has s p ≡ has t p) → s ≡ t
-same_phases s t p q same =
-    ap (λ (n : NumberSet). let made : PhaseSet = record { numbers = n } in made) (same_numbers s.numbers t.numbers p q same)
-
--- what a test finds the same is the same
 pub same-set : (a b : NumberSet) → is_same_set a b ≡ true → a ≡ b
 same-set a b is = ap (λ (w : ℕ). let made : NumberSet = record { word = w } in made) (eqb-true a.word b.word is)
 

@@ -1,10 +1,10 @@
 -- Local counters with a clock, by computing. Tick number 0 is at 7:00 of 2000-01-01 first: 252,000 tenths after midnight,
 -- which are 229 cycles of 110 s and 10 s. Then it is at 23:59:40, so that tick 200 is at midnight. A cycle of 110 s that
 -- counts from the midnight before is 30 s further there: 863,800 tenths are 785 cycles and 30 s.
-use Rattle.std.specs.Prelude.{◌≡◌, ℕ, List, [], ◌∷◌, Option, Some, None, map, refl}
+use Rattle.std.specs.Prelude.{◌≡◌, ℕ, [], ◌∷◌, Option, Some, None, map, refl}
 use Rattle.tsb_objects.specs.tsb_plan.Quad.{quad}
 use Rattle.tsb_coord.specs.Clock.{midnight_at, shift, start_of}
-use Rattle.tsb_coord.specs.Correction.{Correction, in_step, in_step_from, local_now, selected_correction}
+use Rattle.tsb_coord.specs.Correction.{local_now, selected_correction}
 use Rattle.tsb_coord.specs.Laws.{since_midnight}
 
 -- seven in the morning of 2000-01-01, in tick number 0, and in tick number 500 at 7:00:50

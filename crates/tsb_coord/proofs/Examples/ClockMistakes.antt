@@ -1,5 +1,5 @@
 -- What the law of counters with a clock refuses, by computing: definitions with one mistake.
-use Rattle.std.specs.Prelude.{◌≡◌, ℕ, ◌+◌, ◌-◌, ◌%◌, List, [], ◌∷◌, refl}
+use Rattle.std.specs.Prelude.{◌≡◌, ℕ, ◌+◌, ◌%◌, [], ◌∷◌, refl}
 use Rattle.tsb_objects.specs.tsb_types.declared.clock_time.TheConstants.{DAY}
 use Rattle.tsb_coord.specs.Clock.{spare, shift}
 use Rattle.tsb_coord.proofs.Examples.ClockExamples.{evening}

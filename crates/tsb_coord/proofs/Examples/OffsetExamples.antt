@@ -1,6 +1,6 @@
 -- Offsets that are counted to the begin of green of the first coordinated phase, by computing: in the plan that leads and
 -- lags the split of phase 2 is from 0 to 250 of the cycle of 800, and local 0 is at 400. The offset of pattern 2 is 790.
-use Rattle.std.specs.Prelude.{◌≡◌, ℕ, ◌%◌, ◌==◌, [], ◌∷◌, List, Option, Some, None, map, if◌then◌else◌, refl}
+use Rattle.std.specs.Prelude.{◌≡◌, ℕ, ◌%◌, ◌==◌, [], ◌∷◌, Some, None, map, if◌then◌else◌, refl}
 use Rattle.tsb_objects.specs.tsb_types.Lists.{run_from}
 use Rattle.tsb_objects.specs.tsb_plan.declared.object.Object.TheVariants.{CoordReference}
 use Rattle.tsb_objects.specs.tsb_plan.Parts.{cycle, offset, offset_reference}

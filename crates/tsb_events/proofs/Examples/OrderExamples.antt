@@ -6,7 +6,7 @@ use Rattle.tsb_types.specs.declared.event.Event.{Event}
 use Rattle.tsb_step.specs.Events as events
 use Rattle.tsb_events.specs.Order.{StandsBefore, AreInOrder}
 use Rattle.tsb_events.proofs.Examples.Examples as examples
-use Rattle.tsb_events.proofs.Examples.Examples.{dark, free, only, pattern_2, quiet}
+use Rattle.tsb_events.proofs.Examples.Examples.{dark, free, only, quiet}
 
 -- what a computed line opens
 unfoldable pub opened : Unit {0}

@@ -14,7 +14,7 @@ use Rattle.tsb_step.specs.Events as events
 use Rattle.tsb_step.specs.declared.log_form.Noted.{Noted}
 use Rattle.tsb_step.specs.Events.{View, Found, Selected, lit_overlaps, serves}
 use Rattle.tsb_events.proofs.AgreeLemmas.{begun-same, agree-either}
-use Rattle.tsb_events.proofs.OrderLemmas.{alarm-span, button-span, call-span, crossing-span, cycle-span, ending-span, one-code, pattern-span, request-span, vehicle-span, zero-span}
+use Rattle.tsb_events.proofs.OrderLemmas.{alarm-span, button-span, call-span, crossing-span, cycle-span, ending-span, pattern-span, request-span, vehicle-span, zero-span}
 use Rattle.tsb_field_display.specs.declared.shown.Shown.{Shown}
 use Rattle.tsb_field_display.specs.declared.shown.Signals.{Signals}
 use Rattle.tsb_field_display.specs.Events as lines

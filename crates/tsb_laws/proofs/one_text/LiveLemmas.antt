@@ -12,7 +12,7 @@ use Rattle.tsb_command_text.specs.declared.live_command.LiveReading.TheVariants.
 use Rattle.tsb_live_text.specs.Changes.{Changes, Ends, Follows, line_after, owed, shows_same, tick_text}
 use Rattle.tsb_text.specs.Stops.{flow_after, stopped_at}
 use Rattle.tsb_live_text.specs.GoTo.{command_to, tick_of}
-use Rattle.tsb_live_text.specs.Live.{AsksLive, GoesTo, Leaves, Live, Reads, Says, Tells, TellsTick, besides, fault_by, present, quits, setup, with_inputs, with_row, with_stop}
+use Rattle.tsb_live_text.specs.Live.{AsksLive, GoesTo, Leaves, Live, Reads, Says, TellsTick, besides, fault_by, present, quits, setup, with_inputs, with_row, with_stop}
 use Rattle.tsb_step.specs.Play.{Cmd, remaining_after}
 use Rattle.tsb_step.specs.Runs.{replay}
 use Rattle.tsb_step.specs.declared.inputs.Input.{Input}
@@ -229,9 +229,6 @@ leaves-one s t u P text other fault faults same a b = elim (same a.0 b.0 a.1 b.1
     | inr m ↦ inr (inr (b.3 ∙ ap fault_by m))
   ]
 ]
-
-tells-one : (s t u left : Live) (line answer text other : List ℕ) (why fault faults : Option LineFault) → Tells s line answer why text fault left t → Tells s line answer why other faults left u → One text other fault faults t u
-tells-one s t u left line answer text other why fault faults a b = inl (a.0 ∙ sym b.0, a.1 ∙ sym b.1, a.2 ∙ sym b.2)
 
 obeys-one : (s t u : Live) (line : List ℕ) (task : Task) (text other : List ℕ) (fault faults : Option LineFault)
     → Leaves s (session.Obeys (setup s) (besides s line) s.inputs task) text fault t → Leaves s (session.Obeys (setup s) (besides s line) s.inputs task) other faults u → One text other fault faults t u

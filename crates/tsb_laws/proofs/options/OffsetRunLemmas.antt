@@ -1,8 +1,7 @@
 -- Two plans that differ in offsets, and in what these are counted to, alone give the same run where local 0 of each
 -- pattern comes at one time.
-use Rattle.std.proofs.Common.{◌≡◌, ℕ, ◌+◌, ◌*◌, ◌==◌, Bool, true, false, not, ◌&&◌, if◌then◌else◌, List, [], ◌∷◌, map, Option, Some, is_some, refl, sym, ap, subst, ◌∙◌}
+use Rattle.std.proofs.Common.{◌≡◌, ℕ, ◌+◌, ◌*◌, Bool, true, false, if◌then◌else◌, List, [], ◌∷◌, map, Option, Some, is_some, refl, sym, ap, subst, ◌∙◌}
 use Rattle.std.proofs.Math.Path.{fun_ext}
-use Rattle.std.specs.List.{list_any}
 use Rattle.tsb_step.specs.tsb_types.declared.lamp.Lamp.{Lamp}
 use Rattle.tsb_step.specs.tsb_plan.declared.object.Object.{Object}
 use Rattle.tsb_step.specs.tsb_plan.declared.object.Object.TheVariants.{PatternOffsetTime, CoordReference}
@@ -20,9 +19,8 @@ use Rattle.tsb_step.specs.tsb_coord.Coordinated.{selects}
 use Rattle.tsb_step.specs.tsb_coord.Correction.{forces, lets_walk_again, local_now, selected_correction}
 use Rattle.tsb_step.specs.tsb_coord.OffsetLaws.{with_offsets, AskAlike}
 use Rattle.tsb_step.specs.tsb_ring.Rings as rings
-use Rattle.tsb_step.specs.tsb_transact.declared.edit.Edit.{Edit}
 use Rattle.tsb_step.specs.tsb_transact.Calls as desk
-use Rattle.tsb_step.specs.tsb_transact.Commit.{changes, changes_some, is_preempt_list}
+use Rattle.tsb_step.specs.tsb_transact.Commit.{changes_some, is_preempt_list}
 use Rattle.tsb_step.specs.tsb_transact.Desk.{value_put, with_edits}
 use Rattle.tsb_step.specs.declared.inputs.Input.{Input}
 use Rattle.tsb_step.specs.declared.inputs.Input.TheVariants as inputs

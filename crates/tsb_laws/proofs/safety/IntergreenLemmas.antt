@@ -64,15 +64,6 @@ over_in_yellow s p e h =
 
 -- ## How far the clearance has come
 
-abbrev yellow_now : ℕ → State → Bool
-yellow_now p s = is_yellow (interval s p)
-
-abbrev red_clear_now : ℕ → State → Bool
-red_clear_now p s = is_red_clear (interval s p)
-
-abbrev clearing_now : ℕ → State → Bool
-clearing_now p s = is_clearing (interval s p)
-
 -- `base` is the run up to and with the tick that ended the green
 data Course (plan : Plan) (base : List Input) (p : ℕ) (later : List Input) : Type 0 where
   in_yellow : interval (replay plan (later ++ base)) p ≡ Yellow → has_held_since (λ s. is_yellow (interval s p)) plan base later ≡ true →

@@ -1,5 +1,5 @@
 -- What a command leaves where the schedule acts, its parts, and `pattern` and `omit` commands, leave where it does not.
-use Rattle.std.proofs.Common.{◌≡◌, ℕ, zero, suc, List, [], ◌∷◌, ◌++◌, Option, Some, None, refl, ap, ◌∙◌, subst, inl, inr}
+use Rattle.std.proofs.Common.{◌≡◌, ℕ, zero, suc, List, [], ◌∷◌, ◌++◌, Option, Some, None, refl, ap, subst, inl, inr}
 use Rattle.tsb_step.specs.tsb_types.declared.refusal.Refusal.{Refusal}
 use Rattle.tsb_step.specs.tsb_machine.declared.commands.Answer.{Answer}
 use Rattle.tsb_step.specs.tsb_machine.declared.commands.Answer.TheVariants.{Took}

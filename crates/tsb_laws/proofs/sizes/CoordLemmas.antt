@@ -12,7 +12,7 @@ use Rattle.tsb_step.specs.tsb_rules.PatternRules.{split_sum, side_sum, split_end
 use Rattle.tsb_step.specs.tsb_coord.declared.correction.Correction.{Correction}
 use Rattle.tsb_step.specs.tsb_coord.Clock.{shift}
 use Rattle.tsb_step.specs.tsb_coord.Coordinated.{counter, local, local_in, reference, residue_of_difference, forces_off, recycles, asks_force_off, asks_recycle, force_off, offset_in_effect}
-use Rattle.tsb_step.specs.tsb_coord.Correction.{longest_wait, waited, shift_of, way, slower, ahead_by, within_cycle, ahead_in, clocked, counted_tick, local_now, steps_twice_in, steps_twice, forces, is_in_step, lets_walk_again, ahead_with, ahead_from, begun, selected_correction}
+use Rattle.tsb_step.specs.tsb_coord.Correction.{longest_wait, waited, shift_of, way, slower, ahead_by, within_cycle, ahead_in, clocked, counted_tick, local_now, steps_twice_in, steps_twice, forces, lets_walk_again, ahead_with, ahead_from, begun, selected_correction}
 use Rattle.tsb_laws.specs.Sizes.{full}
 
 module _ (plan : Plan) where

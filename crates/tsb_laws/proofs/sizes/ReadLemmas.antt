@@ -1,5 +1,5 @@
 -- What a plan gives of detectors, overlaps and preempts that it has not: nothing.
-use Rattle.std.proofs.Common.{◌≡◌, ℕ, ◌+◌, ◌<◌, ◌≤◌, ◌==◌, nat_le, Bool, false, ◌&&◌, None, List, refl, arith, ap}
+use Rattle.std.proofs.Common.{◌≡◌, ℕ, ◌+◌, ◌≤◌, nat_le, false, ◌&&◌, None, arith, ap}
 use Rattle.std.proofs.lemmas.Bool.Decides.{nat_tests}
 use Rattle.tsb_step.specs.tsb_plan.declared.object.Object.TheVariants.{VehicleDetectorCallPhase, PedestrianDetectorCallPhase, OverlapIncludedPhases, OverlapModifierPhases, OverlapTrailGreen, OverlapTrailYellow, OverlapType, PreemptTrackPhase, PreemptDwellPhase, PreemptExitPhase}
 use Rattle.tsb_step.specs.tsb_plan.Parts.{unless_zero, call_phase, pedestrian_call_phase}

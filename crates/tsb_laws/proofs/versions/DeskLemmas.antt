@@ -40,9 +40,6 @@ row_index-there k e =
     let low : (k - 1) % 16 < 8 = grind (arith, nat_tests, parts.1) in
     omega arith
 
-row_index-injective : (i k : ℕ) → 1 ≤ i → 1 ≤ k → row_index i ≡ row_index k → i ≡ k
-row_index-injective i k from at e = sym (row_index-back i from) ∙ ap narrowed e ∙ row_index-back k at
-
 is-equal : (i k : ℕ) → i ≡ k → (i == k) ≡ true
 is-equal i k e = grind (arith, nat_tests)
 

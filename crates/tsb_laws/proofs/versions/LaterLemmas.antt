@@ -1,5 +1,5 @@
 -- A plan text of version 2 is, with another number, one of version 3; and no version gives what came after it.
-use Rattle.std.proofs.Common.{zero, suc, ◌≡◌, ℕ, ◌+◌, ◌≤◌, nat_le, nat_lt, cond, find, Bool, true, false, List, length, Some, Result, Ok, Err, codes, bytes_eq, if◌then◌else◌, Ordering, Less, Equal, Greater, nat_cmp, refl, sym, ◌∙◌, true≢false, subst, arith}
+use Rattle.std.proofs.Common.{zero, suc, ◌≡◌, ℕ, ◌+◌, ◌≤◌, nat_le, nat_lt, cond, find, Bool, true, false, List, length, Some, Ok, Err, codes, bytes_eq, if◌then◌else◌, Ordering, Less, Equal, Greater, nat_cmp, refl, sym, ◌∙◌, true≢false, subst, arith}
 use Rattle.std.proofs.lemmas.Bool.{and_parts, le-ltb}
 use Rattle.std.proofs.lemmas.Bool.Decides.{nat_tests}
 use Rattle.std.proofs.lemmas.Map.Lookups.{exact_bytes}
@@ -17,10 +17,10 @@ use Rattle.tsb_step.specs.tsb_plan.declared.version.Version.TheVariants.{Two, Th
 use Rattle.tsb_step.specs.tsb_plan.Names.{object_named}
 use Rattle.tsb_step.specs.tsb_plan.Objects.{objects}
 use Rattle.tsb_step.specs.tsb_plan.Plan.{Plan, empty, with_value}
-use Rattle.tsb_step.specs.tsb_plan.Versions.{has_object, has_index_in, indices_in, greatest_in}
+use Rattle.tsb_step.specs.tsb_plan.Versions.{has_object, indices_in, greatest_in}
 use Rattle.tsb_step.proofs.tsb_plan.NameLemmas.{named_exact}
 use Rattle.tsb_plan_text.specs.PlanErrors.{Error, no_such_object, no_such_index, object_not_a_table, not_a_whole_number, out_of_range, too_large}
-use Rattle.tsb_plan_text.specs.PlanText.{limit, data_plan, checked, reading, or_fault, index_named, whole_number, with_entry, with_table, with_object, is_notes, with_notes, with_member, with_members}
+use Rattle.tsb_plan_text.specs.PlanText.{limit, data_plan, checked, reading, or_fault, index_named, whole_number, with_entry, with_table, with_object, with_notes, with_member, with_members}
 use Rattle.tsb_plan_text.proofs.SaysLemmas.{or_ok, then_ok, if_ok}
 use Rattle.tsb_laws.specs.Texts.{IsOfVersion, renumbered}
 use Rattle.tsb_laws.proofs.versions.TextLemmas.{read-in}

@@ -1,5 +1,5 @@
 -- Version 1 has none of the objects that are options, so a plan that says what a plan of version 1 says has each at 0.
-use Rattle.std.proofs.Common.{◌≡◌, ℕ, true, false, arith}
+use Rattle.std.proofs.Common.{arith}
 use Rattle.tsb_step.specs.tsb_plan.declared.object.Object.TheVariants.{CoordForceMode, CoordMaximumMode, PatternPermissiveTime, PatternLeadLag, PhasePedestrianRecycle, CoordCorrectionMode, OverlapAcrossRings, PreemptChoosesAnew, CoordReference}
 use Rattle.tsb_step.specs.tsb_plan.Plan.{Plan}
 use Rattle.tsb_laws.specs.Options.{HasNoOptions}

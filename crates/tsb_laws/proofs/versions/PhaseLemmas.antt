@@ -14,7 +14,7 @@ use Rattle.tsb_step.specs.tsb_phase.declared.ending.Ending.{Ending}
 use Rattle.tsb_step.specs.tsb_phase.declared.ending.Ending.TheVariants.{MaxOut, GapOut}
 use Rattle.tsb_step.specs.tsb_phase.Phase.{Phase, Given, Moved, GreenHeld, as_read, held_of}
 use Rattle.tsb_step.specs.tsb_phase.DynamicMaximum.{effective_maximum, maximum_in_use, stepped, running_maximum_after}
-use Rattle.tsb_step.specs.tsb_phase.Green.{waits_for, cars_waiting, reduction_timer, gap, initial, gap_has_expired, gapped_latch, is_gapped, is_by_gap, has_reached_some, conflict_timer, acting_maximum, has_maxed_out, forced_latch}
+use Rattle.tsb_step.specs.tsb_phase.Green.{waits_for, cars_waiting, reduction_timer, gap, initial, gap_has_expired, gapped_latch, is_gapped, has_reached_some, conflict_timer, acting_maximum, has_maxed_out, forced_latch}
 use Rattle.tsb_step.specs.tsb_phase.Pedestrian.{ended_by, walk_time, clearance_time, pedestrian_after, pedestrian_now}
 use Rattle.tsb_step.specs.tsb_phase.Ready.{is_gapped_now, has_timed_out, green_is_done, is_ready, is_over_in, is_over, red_revert_passed}
 use Rattle.tsb_step.specs.tsb_phase.Next.{interval_after, held_now, ending_now, next}
@@ -114,10 +114,6 @@ is_gapped-same : (plan : Plan) (hold : ℕ → Bool) (given : Given) (p : ℕ) (
     is_gapped (widened plan) (wide_given hold given) p held ≡ is_gapped plan given p held
 is_gapped-same plan hold given p held narrow none =
     rw (gapped_latch-same plan hold given p held narrow none, gap_has_expired-same plan hold given p held narrow none) refl
-
-is_by_gap-same : (plan : Plan) (hold : ℕ → Bool) (given : Given) (p : ℕ) (gapped : Bool) → IsNarrow plan → is_narrow p ≡ true →
-    is_by_gap (widened plan) (wide_given hold given) p gapped ≡ is_by_gap plan given p gapped
-is_by_gap-same plan hold given p gapped narrow in_it = rw (maximum_recall-same plan given.runs p narrow in_it) refl
 
 -- ## Pedestrians
 

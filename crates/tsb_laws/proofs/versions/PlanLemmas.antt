@@ -1,15 +1,15 @@
 -- What a plan of version 1 gives of phases beyond the eighth, and where the wide plan has the values of its rows.
-use Rattle.std.proofs.Common.{◌≡◌, ℕ, ◌+◌, ◌-◌, ◌*◌, ◌/◌, ◌%◌, ◌≤◌, ◌==◌, nat_le, nat_lt, Bool, true, false, ◌&&◌, ◌⊎◌, List, [], ◌∷◌, ◌++◌, None, refl, arith, ◌∙◌, ap, inl, inr, sum_by, map}
+use Rattle.std.proofs.Common.{◌≡◌, ℕ, ◌+◌, ◌-◌, ◌*◌, ◌/◌, ◌%◌, ◌≤◌, ◌==◌, nat_le, nat_lt, Bool, true, false, ◌&&◌, List, [], ◌∷◌, ◌++◌, None, refl, arith, ◌∙◌, ap, inl, inr, sum_by, map}
 use Rattle.std.specs.List.{list_all, list_any}
 use Rattle.std.proofs.lemmas.Bool.{cases_Bool}
 use Rattle.std.proofs.lemmas.Bool.Decides.{nat_tests}
 use Rattle.tsb_step.specs.tsb_types.Lists.{first, run_from}
 use Rattle.tsb_step.specs.tsb_types.Sets.{names}
 use Rattle.tsb_step.proofs.tsb_types.SetLemmas.{names-above}
-use Rattle.tsb_step.specs.tsb_plan.declared.object.Object.TheVariants.{PhaseEnabled, PhaseRing, PhaseConcurrency, SplitTime, SplitMode, SplitCoordPhase, SequenceData, CoordForceMode, CoordMaximumMode, PatternPermissiveTime, PatternLeadLag, PhasePedestrianRecycle, CoordCorrectionMode, CoordCorrectionLimit, CoordReference}
+use Rattle.tsb_step.specs.tsb_plan.declared.object.Object.TheVariants.{PhaseEnabled, PhaseRing, PhaseConcurrency, SplitTime, SplitMode, SplitCoordPhase, SequenceData, CoordForceMode, CoordMaximumMode, PatternPermissiveTime, PhasePedestrianRecycle, CoordCorrectionMode, CoordCorrectionLimit, CoordReference}
 use Rattle.tsb_step.specs.tsb_plan.declared.plan.patterns.CorrectionMode.TheVariants.{AtOnce}
 use Rattle.tsb_step.specs.tsb_plan.Plan.{Plan, phases, is_enabled, is_concurrent, recycles_walk, sequence}
-use Rattle.tsb_step.specs.tsb_plan.Parts.{offset, offset_reference_of, forces_late, floats, correction_mode, permissive_time, leads_and_lags, split_index, mode_of, split_time, split_mode, is_omitted, is_coordinated}
+use Rattle.tsb_step.specs.tsb_plan.Parts.{offset, offset_reference_of, forces_late, floats, correction_mode, permissive_time, split_index, mode_of, split_time, split_mode, is_omitted, is_coordinated}
 use Rattle.tsb_step.specs.tsb_plan.Running.{maximum_by_mode}
 use Rattle.tsb_step.specs.tsb_objects.Instants.{reference, end_within, counted_to, offset_from, offset_in_effect}
 use Rattle.tsb_step.specs.tsb_ring.Rings.{Ring, Ring1, Ring2, in_ring}
@@ -68,10 +68,6 @@ in_ring-narrow plan r p narrow on =
       | inl e ↦ e
       | inr e ↦ (let no : false ≡ true = rw (not-in_ring plan r p narrow e) at on in absurd cc)
     ]
-
--- of the eight, or not
-pub cases_narrow : (p : ℕ) → (is_narrow p ≡ true) ⊎ (is_narrow p ≡ false)
-cases_narrow p = cases_Bool (is_narrow p)
 
 -- a list of version 1 names none of them
 pub names-none : (list p : ℕ) → list ≤ 255 → is_beyond p ≡ true → names list p ≡ false
@@ -136,10 +132,6 @@ no-maximum_mode plan p narrow = rw (narrow.placed CoordMaximumMode 1 refl) refl
 -- a coordinated phase is forced off at its instant alone
 pub no-permissive_time : (plan : Plan) (n : ℕ) → IsNarrow plan → permissive_time plan n ≡ 0
 no-permissive_time plan n narrow = rw (narrow.placed PatternPermissiveTime n refl) refl
-
--- coordinated splits end at one time
-pub not-apart : (plan : Plan) (n : ℕ) → IsNarrow plan → leads_and_lags plan n ≡ false
-not-apart plan n narrow = rw (narrow.placed PatternLeadLag n refl) refl
 
 -- no phase walks again within its green
 pub no-second_walk : (plan : Plan) (p : ℕ) → IsNarrow plan → recycles_walk plan p ≡ false

@@ -5,7 +5,7 @@ use Rattle.std.proofs.lemmas.Bool.{cases_Bool}
 use Rattle.std.proofs.lemmas.Bool.Decides.{nat_tests}
 use Rattle.tsb_step.specs.tsb_plan.declared.object.Object.{Object}
 use Rattle.tsb_step.specs.tsb_plan.declared.version.Version.TheVariants.{One}
-use Rattle.tsb_step.specs.tsb_plan.Plan.{Plan, Counts, all_counts, narrow_counts, is_enabled}
+use Rattle.tsb_step.specs.tsb_plan.Plan.{Plan, Counts, narrow_counts, is_enabled}
 use Rattle.tsb_step.specs.tsb_plan.Versions.{is_in_rows, has_index_in, translated}
 use Rattle.tsb_step.specs.tsb_rules.Rules.{first_broken}
 use Rattle.tsb_step.specs.declared.inputs.Input.{Input}

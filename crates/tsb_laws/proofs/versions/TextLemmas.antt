@@ -14,7 +14,7 @@ use Rattle.tsb_step.specs.tsb_plan.VersionLaws.{TranslateApart}
 use Rattle.tsb_step.proofs.tsb_plan.TableLemmas.{order-injective}
 use Rattle.tsb_step.proofs.tsb_plan.PlanLemmas.{same-parts}
 use Rattle.tsb_plan_text.specs.PlanErrors.{Error, not_json, not_a_table, no_version, too_large, no_such_object, object_not_a_table, no_such_index, not_a_whole_number, out_of_range}
-use Rattle.tsb_plan_text.specs.PlanText.{limit, data_of, version_in, data_plan, unless_broken, checked, reading, or_fault, then_on, index_named, whole_number, with_entry, with_table, with_object, is_notes, with_notes, with_member, with_members}
+use Rattle.tsb_plan_text.specs.PlanText.{limit, data_of, version_in, data_plan, unless_broken, checked, reading, then_on, index_named, whole_number, with_entry, with_table, with_object, is_notes, with_notes, with_member, with_members}
 use Rattle.tsb_plan_text.specs.PlanTextSays.{number_for, SaysThese, Says}
 use Rattle.tsb_plan_text.proofs.SaysLemmas.{says}
 use Rattle.tsb_step.specs.tsb_rules.declared.rules.Rule.{Rule}

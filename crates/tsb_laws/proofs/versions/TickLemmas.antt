@@ -5,7 +5,7 @@ use Rattle.std.proofs.lemmas.Bool.{cases_Bool}
 use Rattle.tsb_step.specs.tsb_cells.declared.timer.Timer.{Timer}
 use Rattle.tsb_step.specs.tsb_types.declared.row.Row.{Row}
 use Rattle.tsb_step.specs.tsb_types.Clip.{clipped, within}
-use Rattle.tsb_step.specs.tsb_types.Sets.{has_detector, has_number, is_phase}
+use Rattle.tsb_step.specs.tsb_types.Sets.{has_detector, is_phase}
 use Rattle.tsb_step.specs.tsb_plan.Plan.{Plan}
 use Rattle.tsb_step.specs.tsb_plan.declared.object.Object.TheVariants.{PreemptChoosesAnew}
 use Rattle.tsb_step.specs.tsb_plan.Parts.{call_phase, is_anew}

@@ -13,11 +13,10 @@ use Rattle.tsb_step.specs.tsb_plan.Parts.{is_used, cycle, correction_mode}
 use Rattle.tsb_step.specs.tsb_plan.Plan.{Plan}
 use Rattle.tsb_step.specs.tsb_coord.Coordinated.{residue_of_difference, counter, is_pattern, refusal, selects}
 use Rattle.tsb_step.specs.tsb_types.declared.clock_time.TheConstants.{DAY, FIRST_MOMENT}
-use Rattle.tsb_step.specs.tsb_coord.Clock.{midnight_at, shift, spare}
+use Rattle.tsb_step.specs.tsb_coord.Clock.{midnight_at, shift}
 use Rattle.tsb_step.specs.tsb_coord.declared.correction.Correction.{Correction}
-use Rattle.tsb_step.specs.tsb_coord.Correction.{in_step, in_step_from, ahead_with, ahead_from, begun, counted_tick, local_now, selected_correction}
+use Rattle.tsb_step.specs.tsb_coord.Correction.{in_step_from, ahead_with, ahead_from, begun, counted_tick, local_now, selected_correction}
 use Rattle.tsb_step.specs.tsb_coord.Coordinated.{local_in}
-use Rattle.tsb_step.specs.tsb_plan.Running.{running}
 
 -- no cycle is longer than 255 seconds
 pub cycles-within : (plan : Plan) → ((o : Object) (i : ℕ) → plan.value o i ≤ greatest o) → (n : ℕ) → cycle plan n ≤ 2550

@@ -10,7 +10,7 @@ use Rattle.tsb_step.proofs.tsb_types.RunLemmas.{length-run_from, get_or-run_from
 use Rattle.tsb_step.specs.tsb_plan.declared.object.Object.{Object}
 use Rattle.tsb_step.specs.tsb_plan.declared.object.Object.TheVariants.{PhaseEnabled}
 use Rattle.tsb_step.specs.tsb_plan.Objects.{objects, order, indices, first_cell, has_index, greatest, value_in}
-use Rattle.tsb_step.specs.tsb_plan.Plan.{Plan, Counts, all_counts, is_same, with_value}
+use Rattle.tsb_step.specs.tsb_plan.Plan.{Plan, Counts, is_same, with_value}
 use Rattle.tsb_step.specs.tsb_plan.PlanOf.{plan_in, plan_cells, plan_of}
 use Rattle.tsb_step.proofs.tsb_plan.TableLemmas.{at-order, order-below, length-objects, order-injective}
 use Rattle.tsb_step.proofs.tsb_plan.PlanLemmas.{same-parts}

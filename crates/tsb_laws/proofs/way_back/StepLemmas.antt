@@ -2,7 +2,7 @@
 use Rattle.std.proofs.Common.{◌≡◌, ℕ, ◌+◌, ◌≤◌, ◌<◌, nat_le, Bool, true, false, ◌&&◌, if◌then◌else◌, List, [], ◌∷◌, Option, Some, None, is_some, refl, sym, ap, subst, arith, ◌∙◌}
 use Rattle.tsb_step.specs.tsb_types.declared.lamp.Lamp.{Lamp}
 use Rattle.tsb_step.specs.tsb_types.declared.row.Row.{Row}
-use Rattle.tsb_step.specs.tsb_types.Sets.{is_phase, has_detector, has_number}
+use Rattle.tsb_step.specs.tsb_types.Sets.{is_phase, has_detector}
 use Rattle.tsb_step.specs.tsb_plan.declared.object.Object.TheVariants.{PhaseEnabled, VehicleDetectorCallPhase}
 use Rattle.tsb_step.specs.tsb_plan.declared.object.ObjectId.{ObjectId}
 use Rattle.tsb_step.specs.tsb_plan.Plan.{Plan, is_enabled}
@@ -36,7 +36,7 @@ use Rattle.tsb_step.specs.Tick.{new_detectors, phases_given, moved, moves, rings
 use Rattle.tsb_step.proofs.EditLemmas.{same_phase_count, same_side_count, same_counts}
 use Rattle.tsb_step.proofs.GivenLemmas.{symmetric, given}
 use Rattle.tsb_step.proofs.GiveUpLemmas.{by_rings}
-use Rattle.tsb_step.proofs.GoodLemmas.{rings_after_moves, good_next, good_step, good_run}
+use Rattle.tsb_step.proofs.GoodLemmas.{rings_after_moves, good_step, good_run}
 use Rattle.tsb_step.proofs.PlaceLemmas.{same_refusal}
 use Rattle.tsb_step.proofs.tsb_phase.MoveLemmas.{stays_at_power_up}
 use Rattle.tsb_laws.specs.Runs.{IsHeld, IsTyped, AreTyped}

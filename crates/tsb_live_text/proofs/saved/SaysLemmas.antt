@@ -49,7 +49,3 @@ last (Err e) whole part a b c p q w s wrote = cut e whole part [] a b c p q w (l
 -- nothing is left
 pub ended : (whole : List ℕ) (a b : Option (List ℕ)) (p q : List ℕ) → Saying whole [] a b p q → SaysText (Ok tt) whole a b p q
 ended whole a b p q s = subst (λ (v : List ℕ). Said a b p q v) (sym (append-nil s.text) ∙ s.all) s.said
-
--- of a text that was said all is said
-pub as-said : (r : Result (Unit {0}) WriteError) (text other : List ℕ) (a b : Option (List ℕ)) (p q : List ℕ) → text ≡ other → SaysText r text a b p q → SaysText r other a b p q
-as-said r text other a b p q same s = subst (λ (v : List ℕ). SaysText r v a b p q) same s

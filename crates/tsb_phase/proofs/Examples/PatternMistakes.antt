@@ -9,7 +9,7 @@ use Rattle.tsb_objects.specs.tsb_plan.Quad.{quad}
 use Rattle.tsb_objects.specs.tsb_plan.Running.{split_green, floating_in, floating_time, maximum_by_mode}
 use Rattle.tsb_phase.specs.Phase.{Given, GreenHeld}
 use Rattle.tsb_phase.specs.DynamicMaximum.{maximum_in_use}
-use Rattle.tsb_phase.specs.Green.{conflict_timer, has_reached_some, acting_maximum, floats_off}
+use Rattle.tsb_phase.specs.Green.{conflict_timer, has_reached_some, floats_off}
 use Rattle.tsb_phase.proofs.Examples.Examples.{held}
 use Rattle.tsb_phase.proofs.Examples.PatternExamples.{floating, driven_in_pattern, by_first, by_second, grown}
 

@@ -1,6 +1,6 @@
 -- A text with a note, and without it; and a mistake, with an example in which it refuses the text.
 use Rattle.std.specs.Prelude.{◌≡◌, ℕ, List, Result, Ok, Err, codes, refl}
-use Rattle.serde_json.specs.Data.{Data, Members, no_members, member, object, string}
+use Rattle.serde_json.specs.Data.{Data, no_members, member, object, string}
 use Rattle.tsb_plan.specs.declared.version.Version.{Version}
 use Rattle.tsb_plan.specs.declared.version.Version.TheVariants.{Two, Three}
 use Rattle.tsb_plan.specs.Names.{object_named}

@@ -1,6 +1,6 @@
 -- What rings give up for a target, and what they keep, by computing; and a mistake that the law refuses. Ring 1 is committed
 -- to 3 and ring 2 to 8, over the barrier, while 2 and 6 clear.
-use Rattle.std.specs.Prelude.{◌≡◌, ℕ, Bool, true, false, if◌then◌else◌, [], ◌∷◌, Option, Some, None, refl}
+use Rattle.std.specs.Prelude.{◌≡◌, ℕ, Bool, if◌then◌else◌, [], ◌∷◌, Option, Some, None, refl}
 use Rattle.tsb_objects.specs.tsb_plan.Quad.{quad}
 use Rattle.tsb_ring.specs.Rings.{Ring1, Ring2, State, power_up}
 use Rattle.tsb_ring.specs.GivenUp.{strays, given_up}

@@ -1,6 +1,6 @@
 -- Ticks in which a preempt chooses anew, and mistakes that the laws of commitments refuse. The plan is the built-in one with
 -- the option of preempt 2, which wants 4 and 7. Phases 2 and 6 clear; overlap 1 includes 1 and 2.
-use Rattle.std.specs.Prelude.{◌≡◌, ℕ, Bool, true, false, [], ◌∷◌, Some, None, refl}
+use Rattle.std.specs.Prelude.{◌≡◌, ℕ, true, [], ◌∷◌, Some, None, refl}
 use Rattle.tsb_types.specs.declared.interval.Interval.TheVariants.{RedClear}
 use Rattle.tsb_types.specs.declared.lamp.Aspect.TheVariants as aspects
 use Rattle.tsb_types.specs.declared.row.Row.{Row}

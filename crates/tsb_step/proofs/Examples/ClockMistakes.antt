@@ -1,5 +1,5 @@
 -- What the law of clocks refuses, by computing: definitions with one mistake, and beside them what the step makes.
-use Rattle.std.specs.Prelude.{◌≡◌, ℕ, List, [], ◌∷◌, Option, Some, None, refl}
+use Rattle.std.specs.Prelude.{◌≡◌, ℕ, Some, None, refl}
 use Rattle.tsb_coord.specs.Correction.{clocked, in_step, in_step_from}
 use Rattle.tsb_ring.specs.Rings as rings
 use Rattle.tsb_ring.specs.Rings.{Ring1}

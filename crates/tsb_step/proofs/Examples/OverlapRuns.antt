@@ -1,9 +1,8 @@
 -- A run from power-up with an arrow and an overlap that trails, computed, and mistakes that its laws refuse. There is one
 -- ring with phases 2 and 4, one on each side, as in TimeRuns. Overlap 2 is an arrow whose turn is 4 and which 2 opposes.
 -- Overlap 3 goes with 2 and trails: 20 ticks of green, 30 of yellow, 10 of red clearance. All inputs are off.
-use Rattle.std.proofs.Common.{◌≡◌, ℕ, Bool, true, false, not, ◌&&◌, ◌||◌, List, [], ◌∷◌, Some, None, refl}
+use Rattle.std.proofs.Common.{◌≡◌, ℕ, Bool, true, ◌&&◌, ◌||◌, List, [], ◌∷◌, Some, None, refl}
 use Rattle.std.specs.List.{list_any}
-use Rattle.tsb_cells.specs.declared.timer.Timer.TheVariants.{Off, On}
 use Rattle.tsb_types.specs.declared.interval.Interval.TheVariants as intervals
 use Rattle.tsb_types.specs.declared.lamp.Aspect.TheVariants as aspects
 use Rattle.tsb_types.specs.Intervals.{is_green, is_yellow}

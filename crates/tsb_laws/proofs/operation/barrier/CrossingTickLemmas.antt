@@ -17,7 +17,7 @@ use Rattle.tsb_step.proofs.tsb_ring.SoundLemmas.{starting_is, Commits, enters, s
 use Rattle.tsb_step.proofs.tsb_ring.StartLemmas.{after_in}
 use Rattle.tsb_step.proofs.tsb_ring.WantLemmas.{pick_free}
 use Rattle.tsb_step.specs.State.{State, interval}
-use Rattle.tsb_step.specs.Tick.{rings_given, moves, over, reverted, yellow_done, after_moves}
+use Rattle.tsb_step.specs.Tick.{rings_given, moves, reverted, yellow_done, after_moves}
 use Rattle.tsb_step.specs.Good.{IsGood}
 use Rattle.tsb_step.specs.TimeLaws.{IsSided}
 use Rattle.tsb_step.proofs.GivenLemmas.{symmetric, given}

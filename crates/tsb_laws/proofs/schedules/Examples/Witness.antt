@@ -1,6 +1,6 @@
 -- The built-in plan of eight phases with a schedule: each day operation is free from 00:00, and pattern 1 is selected at
 -- 00:01. A clock is set 0.1 s before that.
-use Rattle.std.proofs.Common.{◌≡◌, ℕ, ◌+◌, ◌*◌, true, false, List, [], ◌∷◌, ◌++◌, Some, None, refl, inl}
+use Rattle.std.proofs.Common.{◌≡◌, ℕ, ◌+◌, ◌*◌, true, false, List, [], ◌∷◌, ◌++◌, None, refl, inl}
 use Rattle.tsb_types.specs.declared.clock_time.TheConstants.{DAY}
 use Rattle.tsb_types.specs.Sets.{number_of_bits}
 use Rattle.tsb_step.specs.tsb_plan.declared.object.Object.{Object}

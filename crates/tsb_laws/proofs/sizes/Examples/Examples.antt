@@ -1,7 +1,7 @@
 -- What a bench of 16 vehicle detectors, 8 buttons, 4 overlaps and 4 preempts shows, and what that of all of them does on
 -- the same plan, by computing. Mistakes: a plan that says what detector 17 calls, and a value that is set for it.
-use Rattle.std.specs.Prelude.{◌≡◌, ℕ, true, List, [], ◌∷◌, Some, None, refl}
-use Rattle.tsb_step.specs.tsb_types.declared.lamp.Aspect.TheVariants.{Red, Green}
+use Rattle.std.specs.Prelude.{◌≡◌, true, List, [], ◌∷◌, Some, None, refl}
+use Rattle.tsb_step.specs.tsb_types.declared.lamp.Aspect.TheVariants.{Green}
 use Rattle.tsb_step.specs.tsb_types.declared.refusal.Refusal.TheVariants.{NoSuchObject}
 use Rattle.tsb_step.specs.tsb_types.declared.row.Row.{Row}
 use Rattle.tsb_step.specs.tsb_types.Sets.{all_off, set_of_detectors}
