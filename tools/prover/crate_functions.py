@@ -107,6 +107,15 @@ def head_row(rows: list[str], function: Function) -> int:
     return next(k for k in range(function.first - 1, function.last) if HEAD.match(rows[k]))
 
 
+def opening_row(rows: list[str], function: Function) -> int | None:
+    """The row below the contract that opens the body of a function. A body on one row has none."""
+    head = head_row(rows, function)
+    indent = rows[head][: len(rows[head]) - len(rows[head].lstrip())]
+    alone = (k for k in range(head, function.last) if rows[k] == indent + "{")
+    ending = (k for k in range(head, function.last) if rows[k].endswith(" {"))
+    return next(alone, next(ending, None))
+
+
 def is_in_cycle(text: str, function: Function) -> bool:
     """Whether a function is said to be one of a cycle of calls."""
     rows = text.split("\n")

@@ -2,9 +2,9 @@
 
 It needs the libraries that `rt ci` left in `crates/*/out/rlib`. The edits of a crate are put into one copy of it, and the
 prover is asked for the functions that they change, and for these alone. Of two edits of one function the second is made
-in a copy of the function. Where another proof names the function's modules, or another edit changes a constant, one copy
-more has no change. Crates that do not stand on one another share a run: what the prover reads before its first function,
-of its logic and of all libraries, it then reads once for them all.
+in a copy of the function. Where another proof names the function's modules, or another edit changes more than a body, one
+copy more has no change. Crates that do not stand on one another share a run: what the prover reads before its first
+function, of its logic and of all libraries, it then reads once for them all.
 
 An edit is refused if the prover names a goal of the very function that it edits, or of one that names the constant that
 it edits, itself or in the fields of its type: a goal that no search proved, or that the answer written for it does not
@@ -31,7 +31,7 @@ from typing import Any
 from tools.prover import kit
 from tools.prover.crate_functions import (Function, Path, function_at, functions_at, functions_of, head_row,
                                           is_in_cycle, is_of_trait)
-from tools.prover.crate_functions import proof_of, sources, span
+from tools.prover.crate_functions import opening_row, proof_of, sources, span
 
 # How the prover begins what it says of a goal that is left open, and of an answer that does not fit.
 OPEN_GOAL = re.compile(r"note: (?:\./)?(\S+?):(\d+):\d+: (?:it is not proved that |`search` found no proof \()")
@@ -177,10 +177,15 @@ def function_of(texts: dict[Path, str], edit: Edit) -> Function:
     return found
 
 
-def is_in_function(texts: dict[Path, str], change: Change) -> bool:
-    """Whether a change is in one function, and in nothing that others read, as a constant."""
+def is_in_body(texts: dict[Path, str], change: Change) -> bool:
+    """Whether a change is in the body of one function, and in nothing that others read, as a contract or a constant."""
     text = texts.get(change.path, "")
-    return change.old in text and function_at(change.path, text, text.find(change.old) + len(change.old)) is not None
+    if change.old not in text:
+        return False
+    start = text.find(change.old)
+    function = function_at(change.path, text, start + len(change.old))
+    opened = opening_row(text.split("\n"), function) if function else None
+    return opened is not None and text.count("\n", 0, start) > opened
 
 
 def is_named(folder: str, texts: dict[Path, str], function: Function) -> bool:
@@ -196,7 +201,7 @@ def placed(folder: str, edits: list[Edit]) -> Iterator[Write]:
     a copy can fail for another reason than its change, one copy more has none: what the prover cannot show of that one
     shows nothing of the others."""
     texts, taken, seen = sources(folder), set(), set()
-    is_shared = any(not is_in_function(texts, change) for edit in edits for change in edit.changes)
+    is_shared = any(not is_in_body(texts, change) for edit in edits for change in edit.changes)
     for number, edit in enumerate(edits):
         if not edit.functions & taken:
             taken |= edit.functions
@@ -256,14 +261,12 @@ def leave_out(room: str, texts: dict[Path, str], functions: set[str]) -> None:
 def empty(rows: list[str], function: Function) -> None:
     """Puts a body that never ends in place of that of a function, and leaves all others on their lines. What may be
     computed in a constant, or names the cycle of calls that it is in, stays as it is."""
-    head = head_row(rows, function)
+    head, opened = head_row(rows, function), opening_row(rows, function)
     indent = rows[head][: len(rows[head]) - len(rows[head].lstrip())]
-    opened = [k for k in range(head, function.last) if rows[k] == indent + "{"]
-    opened = opened or [k for k in range(head, function.last) if rows[k].endswith(" {")]
     stays = "const fn" in rows[head] or any("#[cycle" in it for it in rows[function.first - 1 : head])
-    if stays or not opened or opened[0] + 2 >= function.last:
+    if stays or opened is None or opened + 2 >= function.last:
         return
-    rows[opened[0] + 1 : function.last - 1] = [f"{indent}    loop {{}}", *[""] * (function.last - opened[0] - 3)]
+    rows[opened + 1 : function.last - 1] = [f"{indent}    loop {{}}", *[""] * (function.last - opened - 3)]
 
 
 def without_main(room: str, functions: set[str]) -> None:

@@ -183,9 +183,10 @@ def test_a_copy_that_is_in_doubt_has_one_without_a_change() -> None:
         assert copies_without_a_change(crate.folder, edits) == 1
         proof.write_text("use Rattle.small.proofs.doubles.Goals.{returns}\n")
         assert copies_without_a_change(crate.folder, edits) == 0
-        change = refused_edits.Change("src/lib.rt", "//! Small sums.", "//! Sums.")
-        shared = dataclasses.replace(edits[0], changes=(change,), functions=frozenset([("src/lib.rt", "next")]))
-        assert copies_without_a_change(crate.folder, [*edits, shared]) == 1
+        for old, new, copies in (("    n + 1", "    n", 0), ("ensures { result ≡ n + 1 }", "", 1), ("//! Small", "//!", 1)):
+            change = refused_edits.Change("src/lib.rt", old, new)
+            other = dataclasses.replace(edits[0], changes=(change,), functions=frozenset([("src/lib.rt", "next")]))
+            assert copies_without_a_change(crate.folder, [*edits, other]) == copies, old
 
 
 def test_what_shows_nothing_is_told() -> None:
