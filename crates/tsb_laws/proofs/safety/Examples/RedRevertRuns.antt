@@ -34,7 +34,7 @@ use Rattle.tsb_laws.proofs.safety.Examples.TickRuns.{ticks, plan_then, all_taken
 abbrev again_values : List (Object × ℕ × ℕ)
 again_values = (PhaseRedClear, 2, 0) ∷ (PreemptMinimumGreen, 2, 0) ∷ (PreemptDwellPhase, 2, 32) ∷ (PreemptDwellPhase, 1, 34) ∷ []
 
-unfoldable again : Plan
+unfoldable pub again : Plan
 again = with_values quad again_values
 
 again_fits : Fits greatest again.value
@@ -49,21 +49,21 @@ breaks_none : first_broken again ≡ None
 unfolding opened again
 breaks_none = refl
 
-again_consistent : IsConsistent again
+pub again_consistent : IsConsistent again
 again_consistent = consistent greatest again again_count breaks_none again_fits
 
 -- the green of 2 ends in the second tick
-abbrev ended : List Input
+abbrev pub ended : List Input
 ended = Switch 1 true ∷ Tick all_off ∷ Switch 2 true ∷ Tick all_off ∷ []
 
-ended_taken : AreTaken again ended
+pub ended_taken : AreTaken again ended
 unfolding opened again
 ended_taken = ((((tt, refl), refl), refl), refl)
 
 ended_unlit : is_unlit again ended ≡ true
 ended_unlit = refl
 
-ticked_2 : (replay again ended).now ≡ 2
+pub ticked_2 : (replay again ended).now ≡ 2
 unfolding opened again
 ticked_2 = refl
 
