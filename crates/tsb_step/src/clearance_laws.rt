@@ -13,7 +13,7 @@ ghost use Rattle.tsb_step.specs.ClearanceLaws.{ClearedAreOver, CoordinatedClearA
 ///
 /// Mistakes: a phase that is cleared as its green has ended, `clears_at_once` (`is_not_over`, `would_be_cleared`), or
 /// in its yellow, `clears_early` of tsb_laws (`does_not_clear`, `would_go_red`).
-/// Witness: `clears_2` of TimeRuns.
+/// Witness: `starts_4` of TimeRuns.
 ///
 /// `started`: A phase that starts has its red revert timer Off, or has waited for it. This holds from any state.
 ///

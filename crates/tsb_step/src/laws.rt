@@ -24,7 +24,7 @@ ghost use Rattle.tsb_step.specs.Laws.{DisplaysAreSafe, FaultsAloneTrip, MemoryIs
 ///
 /// Not said: for how long.
 /// Mistake: a pedestrian part that is kept as the green ends, `part_kept` (`walks_no_more`, `would_walk_on`).
-/// Witness: `walk_before` to `green_after` of TimeRuns, a walk up to the end of its green.
+/// Witness: `walk_ends`, `green_ends` of TimeRuns, a walk up to the end of its green.
 pub fn displays_are_safe()
     ensures safe { DisplaysAreSafe }
     ensures together { ServedGoTogether }
@@ -47,7 +47,7 @@ pub fn plans_stay_consistent()
 /// Not said: that it ever starts.
 /// Mistake: one ring crosses as soon as it has cleared, `starting_once_cleared` of tsb_ring (`still_serves_6`,
 /// `apart_3_6`, `not_over_6`).
-/// Witness: `starts_4`, `over_2` of TimeRuns.
+/// Witness: `starts_4` of TimeRuns.
 pub fn starts_wait()
     ensures { StartsWait }
 {}

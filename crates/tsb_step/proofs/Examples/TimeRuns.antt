@@ -1,13 +1,17 @@
 -- Runs from power-up that meet all premises of a law of times at once, computed. There is one ring with phases 2 and 4,
 -- one on each side, both on minimum recall and with no least green; 2 has a walk of 1 s and a clearance of 1 s in each
 -- green, and overlap 1 goes with it. Phase 2 starts in tick 1, and all inputs are off.
-use Rattle.std.proofs.Common.{zero, suc, ◌≡◌, ℕ, ◌+◌, ◌≤◌, nat_le, nat_lt, Bool, true, false, ◌&&◌, if◌then◌else◌, List, [], ◌∷◌, Some, None, refl, sym, ap, ap₂, arith, ◌∙◌}
+use Rattle.std.proofs.Common.{zero, suc, ◌≡◌, ℕ, ◌+◌, ◌≤◌, nat_le, nat_lt, Bool, true, false, ◌&&◌, if◌then◌else◌, List, [], ◌∷◌, Option, Some, None, refl, sym, ap, ap₂, arith, ◌∙◌}
 use Rattle.std.specs.List.{list_all}
 use Rattle.std.proofs.lemmas.Bool.{and_parts, true≢false}
 use Rattle.std.proofs.lemmas.Bool.Decides.{nat_tests}
+use Rattle.tsb_cells.specs.declared.timer.Timer.{Timer}
 use Rattle.tsb_cells.specs.declared.timer.Timer.TheVariants.{On}
+use Rattle.tsb_types.specs.declared.interval.Interval.{Interval}
 use Rattle.tsb_types.specs.declared.interval.Interval.TheVariants.{Red, Green, Yellow, RedClear}
+use Rattle.tsb_types.specs.declared.interval.PedestrianInterval.{PedestrianInterval}
 use Rattle.tsb_types.specs.declared.interval.PedestrianInterval.TheVariants.{DontWalk, Walk, PedestrianClear}
+use Rattle.tsb_types.specs.declared.lamp.Aspect.{Aspect}
 use Rattle.tsb_types.specs.declared.lamp.Aspect.TheVariants as aspects
 use Rattle.tsb_types.specs.declared.lamp.Lamp.TheVariants as lamps
 use Rattle.tsb_types.specs.declared.lamp.SignalColor.TheVariants as signals
@@ -164,16 +168,20 @@ at n = replay brisk (ticks_after [] n)
 pub met : (n : ℕ) → n ≤ 500 → Meets brisk (ticks_after [] n)
 met n few = meets_after brisk [] n (consistent brisk brisk_count brisk_rules brisk_none) tt refl (omega (arith, few))
 
+-- what a state shows and what the next one does, each computed once
+abbrev then_next : {A : Type 0} → (State → A) → State → A × A
+then_next show s = (show s, show (step s (Tick all_off)))
+
 -- ## Timers count time
 
 abbrev held : (State → Bool) → ℕ → ℕ
 held test n = held_for test brisk (ticks_after [] n)
 
-walks : pedestrian_part (at 5) 2 ≡ Walk
-unfolding opened two brisk
-walks = refl
+-- the pedestrian part of 2, its timer, and that of the interval
+abbrev parts : State → PedestrianInterval × Timer × Timer
+parts s = (pedestrian_part s 2, (s.phases 2).pedestrian_timer, (s.phases 2).timer)
 
-tells_walk : ((at 5).phases 2).pedestrian_timer ≡ On 4
+tells_walk : parts (at 5) ≡ (Walk, On 4, On 4)
 unfolding opened two brisk
 tells_walk = refl
 
@@ -181,25 +189,17 @@ held_walk : held (λ s. is_walk (pedestrian_part s 2)) 5 ≡ 4
 unfolding opened two brisk
 held_walk = refl
 
-clears : pedestrian_part (at 13) 2 ≡ PedestrianClear
+held_green : held (λ s. is_green (interval s 2)) 5 ≡ 4
 unfolding opened two brisk
-clears = refl
+held_green = refl
 
-tells_clearance : ((at 13).phases 2).pedestrian_timer ≡ On 2
+tells_clearance : parts (at 13) ≡ (PedestrianClear, On 2, On 12)
 unfolding opened two brisk
 tells_clearance = refl
 
 held_clearance : held (λ s. is_clearance (pedestrian_part s 2)) 13 ≡ 2
 unfolding opened two brisk
 held_clearance = refl
-
-tells_green : ((at 5).phases 2).timer ≡ On 4
-unfolding opened two brisk
-tells_green = refl
-
-held_green : held (λ s. is_green (interval s 2)) 5 ≡ 4
-unfolding opened two brisk
-held_green = refl
 
 tells_yellow : ((at 23).phases 2).timer ≡ On 2
 unfolding opened two brisk
@@ -217,50 +217,41 @@ held_red_clear : held (λ s. is_red_clear (interval s 2)) 52 ≡ 1
 unfolding opened two brisk
 held_red_clear = refl
 
--- ## What a tick ends has held, and greens clear in time
+-- ## What a tick ends has held, and greens clear in time; heads clear in yellow
 
 -- the walk in tick 11, the clearance and the green in tick 21, the yellow in tick 51, the red clearance in tick 61
-walk_before : pedestrian_part (at 10) 2 ≡ Walk
+walk_ends : then_next (λ s. pedestrian_part s 2) (at 10) ≡ (Walk, PedestrianClear)
 unfolding opened two brisk
-walk_before = refl
+walk_ends = refl
 
-walk_after : pedestrian_part (at 11) 2 ≡ PedestrianClear
+abbrev greens : State → PedestrianInterval × Interval
+greens s = (pedestrian_part s 2, interval s 2)
+
+green_ends : then_next greens (at 20) ≡ ((PedestrianClear, Green), (DontWalk, Yellow))
 unfolding opened two brisk
-walk_after = refl
+green_ends = refl
 
-clearance_before : pedestrian_part (at 20) 2 ≡ PedestrianClear
+-- with the heads of 2 and of overlap 1
+abbrev heads : State → Interval × Aspect × Aspect
+heads s = (interval s 2, (display s).vehicle 2, (display s).overlap 1)
+
+yellow_ends : then_next heads (at 50) ≡ ((Yellow, aspects.Yellow, aspects.Yellow), (RedClear, aspects.Red, aspects.Red))
 unfolding opened two brisk
-clearance_before = refl
+yellow_ends = refl
 
-clearance_after : pedestrian_part (at 21) 2 ≡ DontWalk
+overlap_is_normal : is_minus_green_yellow (at 50).plan 1 ≡ false
 unfolding opened two brisk
-clearance_after = refl
+overlap_is_normal = refl
 
-green_before : interval (at 20) 2 ≡ Green
+overlap_held : held (λ s. is_yellow_head ((display s).overlap 1)) 23 ≡ 2
 unfolding opened two brisk
-green_before = refl
+overlap_held = refl
 
-green_after : interval (at 21) 2 ≡ Yellow
+red_clear_ends : then_next (λ s. interval s 2) (at 60) ≡ (RedClear, Red)
 unfolding opened two brisk
-green_after = refl
+red_clear_ends = refl
 
-yellow_before : interval (at 50) 2 ≡ Yellow
-unfolding opened two brisk
-yellow_before = refl
-
-yellow_after : interval (at 51) 2 ≡ RedClear
-unfolding opened two brisk
-yellow_after = refl
-
-red_clear_before : interval (at 60) 2 ≡ RedClear
-unfolding opened two brisk
-red_clear_before = refl
-
-red_clear_after : interval (at 61) 2 ≡ Red
-unfolding opened two brisk
-red_clear_after = refl
-
--- and nothing trips until it has cleared
+-- the green ends in tick 21, and nothing trips until it has cleared
 ends_now : EndsNow (at 20) (λ k. all_off) 2
 unfolding opened two brisk
 ends_now = record {
@@ -269,67 +260,33 @@ ends_now = record {
   untripped = λ k few. ap (λ (s : State). s.trip) (same_ticks brisk [] 20 k) ∙ (met (20 + k) (omega (arith, few))).untripped;
 }
 
--- ## Heads clear in yellow
-
-head_before : (display (at 50)).vehicle 2 ≡ aspects.Yellow
-unfolding opened two brisk
-head_before = refl
-
-head_after : (display (at 51)).vehicle 2 ≡ aspects.Red
-unfolding opened two brisk
-head_after = refl
-
-overlap_is_normal : is_minus_green_yellow (at 50).plan 1 ≡ false
-unfolding opened two brisk
-overlap_is_normal = refl
-
-overlap_before : (display (at 50)).overlap 1 ≡ aspects.Yellow
-unfolding opened two brisk
-overlap_before = refl
-
-overlap_after : (display (at 51)).overlap 1 ≡ aspects.Red
-unfolding opened two brisk
-overlap_after = refl
-
-overlap_held : held (λ s. is_yellow_head ((display s).overlap 1)) 23 ≡ 2
-unfolding opened two brisk
-overlap_held = refl
-
 -- ## Commitments stay, starts wait, and what is cleared is over
 
-commits_to_4 : (at 30).rings.commitment Ring1 ≡ Some 4
+-- the commitment of ring 1, and the phase that the rings cross to
+abbrev commits : State → Option ℕ × Option ℕ
+commits s = (s.rings.commitment Ring1, s.rings.crossing)
+
+commits_to_4 : commits (at 30) ≡ (Some 4, Some 2)
 unfolding opened two brisk
 commits_to_4 = refl
 
-crosses : (at 30).rings.crossing ≡ Some 2
-unfolding opened two brisk
-crosses = refl
+-- whether 4 starts, 2 is over and 2 is cleared in the next tick, and the interval of 4 after it
+abbrev starts : State → Bool × Bool × Bool × Interval
+starts s = (is_started (moves s all_off) 4, over s 2, is_cleared (moves s all_off) 2, interval (step s (Tick all_off)) 4)
 
-starts_4 : is_started (moves (at 60) all_off) 4 ≡ true
+starts_4 : starts (at 60) ≡ (true, true, true, Green)
 unfolding opened two brisk
 starts_4 = refl
 
-over_2 : over (at 60) 2 ≡ true
-unfolding opened two brisk
-over_2 = refl
-
-clears_2 : is_cleared (moves (at 60) all_off) 2 ≡ true
-unfolding opened two brisk
-clears_2 = refl
-
-green_4 : interval (at 61) 4 ≡ Green
-unfolding opened two brisk
-green_4 = refl
-
 -- ## A start after a yellow: 2 starts again in tick 102, and has been neither Green nor Yellow since tick 51
 
-starts_again : is_started (moves (at 101) all_off) 2 ≡ true
+-- whether 2 starts in the next tick, and how long it has been neither
+abbrev reverts : State → Bool × Timer
+reverts s = (is_started (moves s all_off) 2, (s.phases 2).red_revert)
+
+starts_again : reverts (at 101) ≡ (true, On 50)
 unfolding opened two brisk
 starts_again = refl
-
-has_reverted : ((at 101).phases 2).red_revert ≡ On 50
-unfolding opened two brisk
-has_reverted = refl
 
 waits_20 : red_revert (at 101).plan 2 ≡ 20
 unfolding opened two brisk
@@ -411,11 +368,10 @@ paced_ends = record {
 }
 
 -- 40 ticks later it is over, and the tick after is at local zero
-is_over : over (paced_at 99) 2 ≡ true
-unfolding opened paced brisk two
-is_over = refl
+abbrev paced_end : State → Bool × Option ℕ
+paced_end s = (over s 2, local (step s (Tick all_off)))
 
-at_zero : local (paced_at 100) ≡ Some 0
+at_zero : paced_end (paced_at 99) ≡ (true, Some 0)
 unfolding opened paced brisk two
 at_zero = refl
 
@@ -455,14 +411,13 @@ recycled_met n few =
     let now = recycled_not_ticked in
     meets_after recycled selected n (consistent recycled recycled_count recycled_rules recycled_none) recycled_taken refl (omega (arith, few, now))
 
--- the first walk and its clearance end in tick 21, the second walk begins in tick 22
-again_before : pedestrian_part (recycled_at 21) 2 ≡ DontWalk
-unfolding opened recycled paced brisk two
-again_before = refl
+abbrev part : State → PedestrianInterval
+part s = pedestrian_part s 2
 
-again_after : pedestrian_part (recycled_at 22) 2 ≡ Walk
+-- the first walk and its clearance end in tick 21, the second walk begins in tick 22
+walks_again : then_next part (recycled_at 21) ≡ (DontWalk, Walk)
 unfolding opened recycled paced brisk two
-again_after = refl
+walks_again = refl
 
 tells_again : ((recycled_at 31).phases 2).pedestrian_timer ≡ On 9
 unfolding opened recycled paced brisk two
@@ -473,22 +428,14 @@ unfolding opened recycled paced brisk two
 held_again = refl
 
 -- it ends in tick 32, its clearance in tick 42; a third would not end by tick 60, and the green ends there
-again_clears : pedestrian_part (recycled_at 32) 2 ≡ PedestrianClear
+again_clears : then_next part (recycled_at 31) ≡ (Walk, PedestrianClear)
 unfolding opened recycled paced brisk two
 again_clears = refl
 
-again_ends : pedestrian_part (recycled_at 42) 2 ≡ DontWalk
+again_ends : then_next part (recycled_at 42) ≡ (DontWalk, DontWalk)
 unfolding opened recycled paced brisk two
 again_ends = refl
 
-no_third : pedestrian_part (recycled_at 43) 2 ≡ DontWalk
-unfolding opened recycled paced brisk two
-no_third = refl
-
-green_until : interval (recycled_at 59) 2 ≡ Green
+green_until : then_next (λ s. interval s 2) (recycled_at 59) ≡ (Green, Yellow)
 unfolding opened recycled paced brisk two
 green_until = refl
-
-yellow_from : interval (recycled_at 60) 2 ≡ Yellow
-unfolding opened recycled paced brisk two
-yellow_from = refl
