@@ -17,7 +17,7 @@ pub fn arrows_flash_by_permissions()
 ///
 /// Not said: anything of pedestrians.
 /// Mistake: an arrow that is green as soon as the ring is committed to its turn, `green_by_commitment` of ArrowMistakes
-/// (`opposes`, `is_not_green`, `would_be_green`).
+/// (`is_not_green`).
 /// Witness: `points`, `turns` of OverlapRuns in tsb_step.
 pub fn green_arrows_are_protected()
     ensures { GreenArrowsAreProtected }

@@ -106,8 +106,8 @@ pub fn overlaps_go_with_phases()
 /// Needs: that the controller has not tripped.
 /// Not said: how long it trails.
 /// Mistake: an overlap that begins to trail with the red clearance of its phase, `kept_through_yellow` of ArrowMistakes
-/// (`trails_then`, `ends_a_yellow`, `would_trail_late`).
-/// Witness: `ends_a_green` of ArrowMistakes.
+/// (`trails_then`, `would_trail_late`).
+/// Witness: `trails_then` of ArrowMistakes.
 pub fn overlaps_last_across_rings()
     ensures ends { OverlapsEndWithAGreen }
     ensures across { OverlapsLastAcrossRings }

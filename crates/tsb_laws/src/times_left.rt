@@ -28,7 +28,7 @@ pub fn red_clears_end_as_shown()
 ///
 /// Needs: an untripped stretch. In each of its ticks the walk time is as long as it was shown: a preempt that comes to end
 /// the phase may cut it short. In the n-th tick the phase does not rest in walk.
-/// Mistake: as of yellows (`walk_would_show_9`, `walks_at_9`, `clears_at_10`).
+/// Mistake: as of yellows (`walk_would_show_9`, `stages_on`).
 /// Witness: `a_walk` of LeftRuns, of 10 ticks.
 pub fn walks_end_as_shown()
     ensures { WalksEndAsShown }
@@ -38,7 +38,7 @@ pub fn walks_end_as_shown()
 ///
 /// Needs: an untripped stretch. In each of its ticks the clearance time is as long as it was shown: a preempt that comes
 /// to end the phase may cut it short.
-/// Mistake: as of yellows (`clearance_would_show_9`, `clears_at_19`, `none_at_20`).
+/// Mistake: as of yellows (`clearance_would_show_9`, `stages_on`).
 /// Witness: `a_clearance` of LeftRuns, of 10 ticks.
 pub fn clearances_end_as_shown()
     ensures { ClearancesEndAsShown }
@@ -49,7 +49,7 @@ pub fn clearances_end_as_shown()
 ///
 /// Needs: an untripped stretch. In each of its ticks the time that the green has to last is as long as it was shown.
 /// Not said: that the green ends then, which takes a gap, a maximum, a force-off or a preempt.
-/// Mistake: as of yellows (`initial_would_show_19`, `not_in_19`, `lasts_in_20`).
+/// Mistake: as of yellows (`initial_would_show_19`, `stages_on`).
 /// Witness: `an_initial` of LeftRuns, of 20 ticks.
 pub fn initials_pass_as_shown()
     ensures { InitialsPassAsShown }
@@ -60,7 +60,7 @@ pub fn initials_pass_as_shown()
 /// Needs: an untripped stretch. No output of the phase was on in the tick that was shown. In each tick of the stretch the
 /// phase was Green, no output of it is on, and its gap is as long as it was shown.
 /// Not said: anything of a gap that is being reduced, which runs out sooner, or of one whose output is still on.
-/// Mistake: as of yellows (`gap_would_show_22`, `not_in_22`, `expires_in_23`).
+/// Mistake: as of yellows (`gap_would_show_22`, `stages_on`).
 /// Witness: `a_gap` of LeftRuns, of 23 ticks.
 pub fn gaps_expire_as_shown()
     ensures { GapsExpireAsShown }
@@ -71,7 +71,7 @@ pub fn gaps_expire_as_shown()
 /// Needs: an untripped stretch. In each of its ticks the phase was Green and has a conflict, and the maximum that acts on
 /// it is as long as it was shown.
 /// Not said: that the green ends then: its walk and its initial time come first, and the barrier may keep it.
-/// Mistake: a maximum that is shown from the beginning of the green (`maximum_would_show_19`, `not_maxed_in_19`,
+/// Mistake: a maximum that is shown from the beginning of the green (`maximum_would_show_19`,
 /// `maxes_out_in_20`).
 /// Witness: `a_maximum` of LeftRuns, of 20 ticks.
 pub fn maximums_pass_as_shown()

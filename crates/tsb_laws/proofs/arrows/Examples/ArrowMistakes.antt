@@ -3,6 +3,7 @@
 -- trails: 20 ticks of green, 30 of yellow, 10 of red clearance. All inputs are off.
 use Rattle.std.proofs.Common.{◌≡◌, ℕ, zero, suc, Bool, true, false, ◌&&◌, ◌||◌, if◌then◌else◌, List, [], ◌∷◌, None, refl}
 use Rattle.std.specs.List.{list_any}
+use Rattle.tsb_step.specs.tsb_types.declared.interval.Interval.{Interval}
 use Rattle.tsb_step.specs.tsb_types.declared.interval.Interval.TheVariants as intervals
 use Rattle.tsb_step.specs.tsb_types.declared.lamp.Aspect.{Aspect}
 use Rattle.tsb_step.specs.tsb_types.declared.lamp.Aspect.TheVariants as aspects
@@ -15,13 +16,14 @@ use Rattle.tsb_step.specs.tsb_plan.Parts.{is_included}
 use Rattle.tsb_step.specs.tsb_plan.Plan.{Plan, phases, with_values}
 use Rattle.tsb_step.specs.tsb_plan.Two.{two}
 use Rattle.tsb_step.specs.tsb_rules.Rules.{first_broken}
+use Rattle.tsb_step.specs.tsb_overlap.declared.parts.OverlapInterval.{OverlapInterval}
 use Rattle.tsb_step.specs.tsb_overlap.declared.parts.OverlapInterval.TheVariants as overlaps
 use Rattle.tsb_step.specs.tsb_ring.Rings.{Ring1}
 use Rattle.tsb_step.specs.declared.inputs.Input.{Input}
 use Rattle.tsb_step.specs.declared.inputs.Input.TheVariants.{Tick}
 use Rattle.tsb_step.specs.State.{State, interval}
 use Rattle.tsb_step.specs.Signs.{display}
-use Rattle.tsb_step.specs.Step.{is_serving}
+use Rattle.tsb_step.specs.Step.{step, is_serving}
 use Rattle.tsb_step.specs.Runs.{replay}
 use Rattle.tsb_step.proofs.Examples.Scenes.{opened}
 use Rattle.tsb_laws.specs.LitHeads.{is_lit}
@@ -53,18 +55,14 @@ at n = replay pointed (ticks n)
 abbrev green_by_commitment : State → ℕ → Aspect
 green_by_commitment s t = if is t (s.rings.commitment Ring1) then aspects.Green else aspects.Red
 
--- 2, which opposes it, is in its yellow then
-opposes : in_service (interval (at 30) 2) ≡ true
-unfolding opened pointed two
-opposes = refl
+-- whether 2, which opposes it, is in service, what the arrow shows, and what the mistake would show
+abbrev committed : State → Bool × Aspect × Aspect
+committed s = (in_service (interval s 2), (display s).overlap 2, green_by_commitment s 4)
 
-is_not_green : (display (at 30)).overlap 2 ≡ aspects.Yellow
+-- 2 is in its yellow then
+is_not_green : committed (at 30) ≡ (true, aspects.Yellow, aspects.Green)
 unfolding opened pointed two
 is_not_green = refl
-
-would_be_green : green_by_commitment (at 30) 4 ≡ aspects.Green
-unfolding opened pointed two
-would_be_green = refl
 
 -- ## An arrow that flashes wherever its turn is Red
 
@@ -94,19 +92,20 @@ abbrev kept_through_yellow : State → ℕ → Bool
 kept_through_yellow s o =
     list_any (λ p. is_included s.plan o p && (is_green (interval s p) || is_yellow (interval s p))) (phases s.plan)
 
--- 2 ends its green in tick 21, and its yellow in tick 51
-ends_a_green : (interval (at 20) 2 ≡ intervals.Green) × (interval (at 21) 2 ≡ intervals.Yellow)
-unfolding opened pointed two
-ends_a_green = (refl, refl)
+-- the interval of 2 now and a tick later, and that of overlap 3 then
+abbrev trails : State → Interval × Interval × OverlapInterval
+trails s = (interval s 2, interval (step s (Tick all_off)) 2, ((step s (Tick all_off)).overlaps 3).interval)
 
-trails_then : ((at 21).overlaps 3).interval ≡ overlaps.TrailGreen
+-- 2 ends its green in tick 21
+trails_then : trails (at 20) ≡ (intervals.Green, intervals.Yellow, overlaps.TrailGreen)
 unfolding opened pointed two
 trails_then = refl
 
-ends_a_yellow : interval (at 50) 2 ≡ intervals.Yellow
-unfolding opened pointed two
-ends_a_yellow = refl
+-- the interval of 2, and whether the mistake keeps overlap 3 now and a tick later
+abbrev keeps : State → Interval × Bool × Bool
+keeps s = (interval s 2, kept_through_yellow s 3, kept_through_yellow (step s (Tick all_off)) 3)
 
-would_trail_late : (kept_through_yellow (at 50) 3 ≡ true) × (kept_through_yellow (at 51) 3 ≡ false)
+-- 2 ends its yellow in tick 51
+would_trail_late : keeps (at 50) ≡ (intervals.Yellow, true, false)
 unfolding opened pointed two
-would_trail_late = (refl, refl)
+would_trail_late = refl

@@ -1,6 +1,7 @@
 -- A run from power-up that meets all premises of the law of greens that end, and mistakes that this law refuses.
-use Rattle.std.proofs.Common.{◌≡◌, ℕ, ◌+◌, ◌≤◌, ◌==◌, Bool, true, false, if◌then◌else◌, List, [], ◌∷◌, ◌++◌, Some, None, is_some, refl, sym, arith, ◌∙◌}
+use Rattle.std.proofs.Common.{◌≡◌, ℕ, ◌+◌, ◌≤◌, ◌==◌, Bool, true, false, if◌then◌else◌, List, [], ◌∷◌, ◌++◌, Option, Some, None, is_some, refl, sym, ap, arith, ◌∙◌}
 use Rattle.tsb_step.specs.tsb_types.Sets.{all_off}
+use Rattle.tsb_step.specs.tsb_types.declared.interval.Interval.{Interval}
 use Rattle.tsb_step.specs.tsb_types.declared.interval.Interval.TheVariants.{Green, Yellow}
 use Rattle.tsb_step.specs.tsb_types.declared.row.Row.{Row}
 use Rattle.tsb_step.specs.tsb_plan.declared.object.Object.TheVariants.{PhaseMaxRecall, PhaseVariableInitial, PhaseAddedInitial, PhaseMaximumInitial}
@@ -13,6 +14,7 @@ use Rattle.tsb_step.specs.declared.inputs.Input.{Input}
 use Rattle.tsb_step.specs.declared.inputs.Input.TheVariants.{Tick}
 use Rattle.tsb_step.specs.State.{State, interval}
 use Rattle.tsb_step.specs.Tick.{service, must_end, runs, hold, phases_given, phase_read, ready}
+use Rattle.tsb_step.specs.Step.{step}
 use Rattle.tsb_step.specs.Runs.{replay, AreTaken}
 use Rattle.tsb_step.specs.Laws.{IsConsistent}
 use Rattle.tsb_step.proofs.Examples.Scenes.{opened, vehicle, called, resting, dwelling}
@@ -68,17 +70,20 @@ ends_so plan is row p was yellow = record { was_green = was; ends = λ h. (let b
 
 -- ## A green that ends by its maximum: an output of 1 is on all the time, and it has had a conflict for 10 ticks
 
-record AtMaximum : Type 0 where
-  was_green : interval (replay brisk (run 10)) 1 ≡ Green
-  ends : interval (replay brisk (Tick cars ∷ run 10)) 1 ≡ Yellow
-  output : has_no_output 1 (replay brisk (run 10)) cars ≡ false
-  acts : maximum_acting (replay brisk (run 10)) 1 ≡ Some 10
-  conflict : has_conflict 1 (replay brisk (run 10)) cars ≡ true
-  long : ticks_in_green (in_ticks (has_conflict 1)) 1 brisk (run 10) ≡ 10
+-- the interval of 1 now and a tick later, whether it has no output, the maximum that acts, and whether there is a conflict
+abbrev Maximum : Type 0
+Maximum = Interval × Interval × Bool × Option ℕ × Bool
 
-at_maximum : AtMaximum
+abbrev at_maximum : State → Maximum
+at_maximum s = (interval s 1, interval (step s (Tick cars)) 1, has_no_output 1 s cars, maximum_acting s 1, has_conflict 1 s cars)
+
+at_10 : at_maximum (replay brisk (run 10)) ≡ (Green, Yellow, false, Some 10, true)
 unfolding opened brisk
-at_maximum = record { was_green = refl; ends = refl; output = refl; acts = refl; conflict = refl; long = refl }
+at_10 = refl
+
+in_conflict_for_10 : ticks_in_green (in_ticks (has_conflict 1)) 1 brisk (run 10) ≡ 10
+unfolding opened brisk
+in_conflict_for_10 = refl
 
 a_maximum_end : GreenEnd brisk (run 10) cars 1
 a_maximum_end = record {
@@ -86,11 +91,16 @@ a_maximum_end = record {
   few = (let count = brisk_count.0 in omega (arith, count));
   taken = run_taken 10 (omega arith);
   untripped = run_dark 10 (omega arith);
-  ended = ends_so brisk (run 10) cars 1 at_maximum.was_green at_maximum.ends;
+  ended = ends_so brisk (run 10) cars 1 (ap (λ (x : Maximum). x.0) at_10) (ap (λ (x : Maximum). x.1) at_10);
 }
 
 by_maximum : IsByMaximum brisk 1 (run 10) cars
-by_maximum = record { maximum = 10; acts = at_maximum.acts; conflict = at_maximum.conflict; long = (let at = at_maximum.long in omega (arith, at)) }
+by_maximum = record {
+  maximum = 10;
+  acts = ap (λ (x : Maximum). x.3) at_10;
+  conflict = ap (λ (x : Maximum). x.4) at_10;
+  long = (let at = in_conflict_for_10 in omega (arith, at));
+}
 
 -- ## Greens that end by their force-off: 2 is coordinated and ends in tick 21, 4 is not and ends in tick 60
 
@@ -102,18 +112,37 @@ record AtForceOff (p n : ℕ) (is_held : Bool) : Type 0 where
   runs : runs (replay round (so_far n)) ≡ Some 1
   held : hold (replay round (so_far n)) p ≡ is_held
 
-coordinated_2 : AtForceOff 2 20 true
-unfolding opened round
-coordinated_2 = record { was_green = refl; ends = refl; quiet = refl; runs = refl; held = refl }
+-- the same of a state, and whether the phase has no output
+abbrev ForcedOff : Type 0
+ForcedOff = Interval × Interval × Option ℕ × Option ℕ × Bool × Bool
 
-other_4 : AtForceOff 4 59 false
+abbrev forced_off : ℕ → State → ForcedOff
+forced_off p s = (interval s p, interval (step s (Tick (vehicle 4))) p, service s (vehicle 4), runs s, hold s p, has_no_output p s (vehicle 4))
+
+at_force_off : (p n : ℕ) (is_held no_output : Bool) → forced_off p (replay round (so_far n)) ≡ (Green, Yellow, None, Some 1, is_held, no_output) →
+    AtForceOff p n is_held
+at_force_off p n is_held no_output h = record {
+  was_green = ap (λ (x : ForcedOff). x.0) h;
+  ends = ap (λ (x : ForcedOff). x.1) h;
+  quiet = ap (λ (x : ForcedOff). x.2) h;
+  runs = ap (λ (x : ForcedOff). x.3) h;
+  held = ap (λ (x : ForcedOff). x.4) h;
+}
+
+ends_2 : forced_off 2 (replay round (so_far 20)) ≡ (Green, Yellow, None, Some 1, true, true)
 unfolding opened round
-other_4 = record { was_green = refl; ends = refl; quiet = refl; runs = refl; held = refl }
+ends_2 = refl
+
+coordinated_2 : AtForceOff 2 20 true
+coordinated_2 = at_force_off 2 20 true true ends_2
 
 -- an output of 4 is on, so that no gap ends it
-has_output_4 : has_no_output 4 (replay round (so_far 59)) (vehicle 4) ≡ false
+has_output_4 : forced_off 4 (replay round (so_far 59)) ≡ (Green, Yellow, None, Some 1, false, false)
 unfolding opened round
 has_output_4 = refl
+
+other_4 : AtForceOff 4 59 false
+other_4 = at_force_off 4 59 false false has_output_4
 
 a_forced_end : (p n : ℕ) (is_held : Bool) → n ≤ 200 → AtForceOff p n is_held → GreenEnd round (so_far n) (vehicle 4) p
 a_forced_end p n is_held low it = record {
@@ -135,16 +164,20 @@ another_end = a_forced_end 4 59 false (omega arith) other_4
 abbrev served_first : List Input
 served_first = ticks all_off 38 ++ began
 
-record AtPreempt : Type 0 where
-  was_green : interval (replay engine served_first) 2 ≡ Green
-  ends : interval (replay engine (Tick all_off ∷ served_first)) 2 ≡ Yellow
-  serves : service (replay engine served_first) all_off ≡ Some 1
-  unwanted : must_end (replay engine served_first) all_off 2 ≡ true
-  lasted : green_for engine 2 served_first ≡ 10
+-- the interval of 2 now and a tick later, the preempt in service, and whether 2 must end
+abbrev Preempted : Type 0
+Preempted = Interval × Interval × Option ℕ × Bool
 
-at_preempt : AtPreempt
+abbrev preempted : State → Preempted
+preempted s = (interval s 2, interval (step s (Tick all_off)) 2, service s all_off, must_end s all_off 2)
+
+at_preempt : preempted (replay engine served_first) ≡ (Green, Yellow, Some 1, true)
 unfolding opened engine
-at_preempt = record { was_green = refl; ends = refl; serves = refl; unwanted = refl; lasted = refl }
+at_preempt = refl
+
+lasted_10 : green_for engine 2 served_first ≡ 10
+unfolding opened engine
+lasted_10 = refl
 
 a_preempted_end : GreenEnd engine served_first all_off 2
 a_preempted_end = record {
@@ -152,7 +185,7 @@ a_preempted_end = record {
   few = begun_engine.known.few;
   taken = all_taken engine all_off began 38 begun_engine.taken in_time;
   untripped = dark_then engine all_off began begun_engine.known.consistent begun_engine.taken begun_engine.unlit 38 in_time;
-  ended = ends_so engine served_first all_off 2 at_preempt.was_green at_preempt.ends;
+  ended = ends_so engine served_first all_off 2 (ap (λ (x : Preempted). x.0) at_preempt) (ap (λ (x : Preempted). x.1) at_preempt);
 }
   where
     in_time : (replay engine began).now + 38 ≤ 1000

@@ -1,5 +1,7 @@
 -- A run from power-up that meets all premises of the laws of late greens, and a mistake that these laws refuse.
-use Rattle.std.proofs.Common.{◌≡◌, ℕ, ◌+◌, ◌≤◌, Bool, true, false, List, [], ◌∷◌, ◌++◌, Some, None, refl, arith}
+use Rattle.std.proofs.Common.{◌≡◌, ℕ, ◌+◌, ◌≤◌, Bool, true, false, List, [], ◌∷◌, ◌++◌, Some, None, refl, ap, arith}
+use Rattle.tsb_step.specs.tsb_types.declared.interval.Interval.TheVariants.{Green}
+use Rattle.tsb_step.specs.tsb_types.declared.interval.PedestrianInterval.TheVariants.{DontWalk}
 use Rattle.tsb_step.specs.tsb_types.Sets.{all_off}
 use Rattle.tsb_step.specs.tsb_types.declared.row.Row.{Row}
 use Rattle.tsb_step.specs.tsb_plan.declared.object.Object.{Object}
@@ -22,9 +24,11 @@ use Rattle.tsb_laws.specs.Stretches.{IsUntripped}
 use Rattle.tsb_laws.specs.ServedCalls.{longest_initial}
 use Rattle.tsb_laws.specs.CoordinatedGreens.{HasGoneOn, is_pressed_in_pattern}
 use Rattle.tsb_laws.specs.LateGreens.{IsInLateSpan, IsLateGreen}
+use Rattle.tsb_laws.specs.PatternEnds.{LacksOnlyItsEnd}
 use Rattle.tsb_laws.proofs.safety.Examples.PlanFits.{Fits, values_fit, quad_fits, consistent}
 use Rattle.tsb_laws.proofs.safety.Examples.TickRuns.{ticks, now_then, all_taken, none_trips}
 use Rattle.tsb_laws.proofs.safety.Examples.StretchRuns.{gone, goes_on}
+use Rattle.tsb_laws.proofs.operation.Examples.PatternEndRuns.{Ends, ends, lacks_its_end}
 
 -- ## 6 begins after its instant: 4 and 8 are coordinated, and local 401 is the first tick of pattern 1. 6 has a minimum green
 -- of 10 ticks, and 2 one of 50, for which 6 waits at the barrier
@@ -149,9 +153,12 @@ is_not_ready_yet : ready (replay late (run 8)) all_off 6 ≡ false
 unfolding opened late
 is_not_ready_yet = refl
 
-is_ready : ready (replay late (run 10)) all_off 6 ≡ true
+late_ends : ends all_off (replay late (run 10)) ≡ (Green, true, None, true, DontWalk, true)
 unfolding opened late
-is_ready = refl
+late_ends = refl
+
+is_ready : ready (replay late (run 10)) all_off 6 ≡ true
+is_ready = ap (λ (x : Ends). x.5) late_ends
 
 record LateWait (plan : Plan) (base later : List Input) (row : Row) (p n : ℕ) : Type 0 where
   consistent : IsConsistent plan
@@ -201,9 +208,18 @@ record LateGreen (plan : Plan) (is : List Input) (row : Row) (p : ℕ) : Type 0 
   taken : AreTaken plan is
   green : IsLateGreen (replay plan is) row p
 
+lacks_its_end_alone : LacksOnlyItsEnd (replay late (run 10)) all_off 6
+lacks_its_end_alone = lacks_its_end all_off (replay late (run 10)) true late_ends
+
 lacks_nothing : IsLateGreen (replay late (run 10)) all_off 6
-unfolding opened late
-lacks_nothing = record { green = refl; span = span_then; conflict = refl; quiet = refl; initial = refl; dont_walk = refl }
+lacks_nothing = record {
+  green = lacks_its_end_alone.green;
+  span = span_then;
+  conflict = lacks_its_end_alone.conflict;
+  quiet = lacks_its_end_alone.quiet;
+  initial = lacks_its_end_alone.initial;
+  dont_walk = lacks_its_end_alone.dont_walk;
+}
 
 a_late_green : LateGreen late (run 10) all_off 6
 a_late_green = record {

@@ -1,7 +1,11 @@
 -- Runs from power-up that meet all premises of the laws of greens that end in a pattern by floating force-off and by a
 -- maximum, and mistakes that these laws refuse.
-use Rattle.std.proofs.Common.{◌≡◌, ℕ, ◌+◌, ◌≤◌, Bool, true, false, ◌&&◌, List, [], ◌∷◌, ◌++◌, Some, None, is_none, refl, arith}
+use Rattle.std.proofs.Common.{◌≡◌, ℕ, ◌+◌, ◌≤◌, Bool, true, false, ◌&&◌, List, [], ◌∷◌, ◌++◌, Option, Some, None, is_none, refl, ap, arith}
 use Rattle.tsb_step.specs.tsb_cells.Timer.{has_reached}
+use Rattle.tsb_step.specs.tsb_types.declared.interval.Interval.{Interval}
+use Rattle.tsb_step.specs.tsb_types.declared.interval.Interval.TheVariants.{Green}
+use Rattle.tsb_step.specs.tsb_types.declared.interval.PedestrianInterval.{PedestrianInterval}
+use Rattle.tsb_step.specs.tsb_types.declared.interval.PedestrianInterval.TheVariants.{DontWalk}
 use Rattle.tsb_step.specs.tsb_types.Sets.{all_off}
 use Rattle.tsb_step.specs.tsb_types.declared.row.Row.{Row}
 use Rattle.tsb_step.specs.tsb_plan.declared.object.Object.{Object}
@@ -13,11 +17,12 @@ use Rattle.tsb_step.specs.tsb_plan.Running.{floating_time, pattern_maximum}
 use Rattle.tsb_step.specs.tsb_rules.Rules.{first_broken}
 use Rattle.tsb_step.specs.tsb_phase.Phase.{held_of}
 use Rattle.tsb_step.specs.tsb_phase.DynamicMaximum.{maximum_in_use}
-use Rattle.tsb_step.specs.tsb_phase.Green.{conflict_timer}
+use Rattle.tsb_step.specs.tsb_phase.Green.{conflict_timer, initial_has_passed}
+use Rattle.tsb_step.specs.tsb_phase.Pedestrian.{pedestrian_now}
 use Rattle.tsb_step.specs.declared.inputs.Input.{Input}
 use Rattle.tsb_step.specs.declared.inputs.Input.TheVariants.{Tick, Pattern}
-use Rattle.tsb_step.specs.State.{State}
-use Rattle.tsb_step.specs.Tick.{runs, forced, conflict, phases_given, phase_read, ready}
+use Rattle.tsb_step.specs.State.{State, interval}
+use Rattle.tsb_step.specs.Tick.{service, runs, forced, conflict, phases_given, phase_read, ready}
 use Rattle.tsb_step.specs.Runs.{replay, AreTaken}
 use Rattle.tsb_step.specs.Laws.{IsConsistent, is_unlit}
 use Rattle.tsb_step.proofs.Examples.Scenes.{opened}
@@ -52,6 +57,29 @@ pub record AWait (plan : Plan) (base later : List Input) (row : Row) (p n : ℕ)
   pub taken : AreTaken plan (later ++ base)
   pub untripped : IsUntripped plan base later
   pub waited : HasWaitedInPattern plan base later row p n
+
+-- what a state says of a green of 6, and whether it is ready
+abbrev pub Ends : Type 0
+Ends = Interval × Bool × Option ℕ × Bool × PedestrianInterval × Bool
+
+abbrev pub ends : Row → State → Ends
+ends row s = (
+  interval s 6,
+  conflict s row 6,
+  service s row,
+  initial_has_passed s.plan (phases_given s row) 6 (held_of (phase_read s 6)),
+  pedestrian_now s.plan (phases_given s row) 6 (phase_read s 6),
+  ready s row 6,
+)
+
+pub lacks_its_end : (row : Row) (s : State) (is_ready : Bool) → ends row s ≡ (Green, true, None, true, DontWalk, is_ready) → LacksOnlyItsEnd s row 6
+lacks_its_end row s is_ready h = record {
+  green = ap (λ (x : Ends). x.0) h;
+  conflict = ap (λ (x : Ends). x.1) h;
+  quiet = ap (λ (x : Ends). x.2) h;
+  initial = ap (λ (x : Ends). x.3) h;
+  dont_walk = ap (λ (x : Ends). x.4) h;
+}
 
 -- ## 6 has lasted its split less yellow change and red clearance, which are 10 ticks: 4 and 8 are coordinated. In each of these
 -- plans 6 has a minimum green of 10 ticks, and 2 one of 50, for which 6 waits at the barrier
@@ -103,9 +131,22 @@ floating_taken_10 = all_taken floating all_off started 10 floating_taken floatin
 floating_untripped : IsUntripped floating started (ticks all_off 10)
 floating_untripped = none_trips floating all_off started floating_consistent floating_taken floating_unlit 10 floating_in_time
 
-floats_for_10 : floating_time (replay floating (since_then all_off 10)).plan (runs (replay floating (since_then all_off 10))) 6 ≡ Some 10
+abbrev by_the_cycle : State → ℕ → Bool
+by_the_cycle s p = forced s p
+
+-- how long its split lets it be Green, and whether a force-off by the cycle alone has come
+abbrev floats : State → Option ℕ × Bool
+floats s = (floating_time s.plan (runs s) 6, by_the_cycle s 6)
+
+floats_then : floats (replay floating (since_then all_off 10)) ≡ (Some 10, false)
 unfolding opened floating
-floats_for_10 = refl
+floats_then = refl
+
+floats_for_10 : floating_time (replay floating (since_then all_off 10)).plan (runs (replay floating (since_then all_off 10))) 6 ≡ Some 10
+floats_for_10 = ap (λ (x : Option ℕ × Bool). x.0) floats_then
+
+would_not_be_forced : by_the_cycle (replay floating (since_then all_off 10)) 6 ≡ false
+would_not_be_forced = ap (λ (x : Option ℕ × Bool). x.1) floats_then
 
 green_for_11 : green_for floating 6 (since_then all_off 10) ≡ 11
 unfolding opened floating
@@ -114,9 +155,12 @@ green_for_11 = refl
 has_floated : HasFloated floating 6 (since_then all_off 10)
 has_floated = record { time = 10; floating = floats_for_10; long = (let at = green_for_11 in omega (arith, at)) }
 
-floating_green : LacksOnlyItsEnd (replay floating (since_then all_off 10)) all_off 6
+floating_ends : ends all_off (replay floating (since_then all_off 10)) ≡ (Green, true, None, true, DontWalk, true)
 unfolding opened floating
-floating_green = record { green = refl; conflict = refl; quiet = refl; initial = refl; dont_walk = refl }
+floating_ends = refl
+
+is_ready_6 : ready (replay floating (since_then all_off 10)) all_off 6 ≡ true
+is_ready_6 = ap (λ (x : Ends). x.5) floating_ends
 
 a_floating_green : AGreen floating (since_then all_off 10) all_off 6
 a_floating_green = record {
@@ -124,7 +168,7 @@ a_floating_green = record {
   few = (let count = floating_count.0 in omega (arith, count));
   taken = floating_taken_10;
   untripped = dark_then floating all_off started floating_consistent floating_taken floating_unlit 10 floating_in_time;
-  green = floating_green;
+  green = lacks_its_end all_off (replay floating (since_then all_off 10)) true floating_ends;
 }
 
 floating_pressed : (gone (is_pressed_in_pattern 6) (replay floating started) (ticks all_off 11)).1 ≡ true
@@ -156,18 +200,6 @@ a_floating_wait = record {
     long = (let at = now_then floating all_off started 10 in omega (arith, at));
   };
 }
-
--- force-off by the cycle alone
-is_ready_6 : ready (replay floating (since_then all_off 10)) all_off 6 ≡ true
-unfolding opened floating
-is_ready_6 = refl
-
-abbrev by_the_cycle : State → ℕ → Bool
-by_the_cycle s p = forced s p
-
-would_not_be_forced : by_the_cycle (replay floating (since_then all_off 10)) 6 ≡ false
-unfolding opened floating
-would_not_be_forced = refl
 
 -- the same plan with mode 1, as if 2 were not read: in the same run 6 is not ready in time
 unfoldable late : Plan
@@ -223,13 +255,39 @@ maximal_in_time = let at = maximal_ticked in omega (arith, at)
 maximal_taken_10 : AreTaken maximal (since_then all_off 10)
 maximal_taken_10 = all_taken maximal all_off started 10 maximal_taken maximal_in_time
 
-maximum_green : LacksOnlyItsEnd (replay maximal (since_then all_off 10)) all_off 6
+-- maximums that act in free operation alone
+abbrev free_alone : State → Row → ℕ → Bool
+free_alone s row p =
+    is_none (runs s)
+    && has_reached (conflict_timer (phases_given s row) p (held_of (phase_read s p))) (maximum_in_use s.plan p (s.phases p).running_maximum)
+
+maximum_ends : ends all_off (replay maximal (since_then all_off 10)) ≡ (Green, true, None, true, DontWalk, true)
 unfolding opened maximal
-maximum_green = record { green = refl; conflict = refl; quiet = refl; initial = refl; dont_walk = refl }
+maximum_ends = refl
+
+-- the pattern that runs, whether the conflict has stood for 10 ticks, and what the mistake makes of it
+abbrev maxes : State → Option ℕ × Bool × Bool
+maxes s = (runs s, has_reached (conflict_timer (phases_given s all_off) 6 (held_of (phase_read s 6))) 10, free_alone s all_off 6)
+
+maxes_then : maxes (replay maximal (since_then all_off 10)) ≡ (Some 1, true, false)
+unfolding opened maximal
+maxes_then = refl
+
+acts_then : pattern_maximum (replay maximal (since_then all_off 10)).plan (Some 1) 6 ≡ Some 10
+unfolding opened maximal
+acts_then = refl
 
 is_maxed : HasMaxedInPattern (replay maximal (since_then all_off 10)) all_off 6
-unfolding opened maximal
-is_maxed = record { number = 1; runs = refl; maximum = 10; acts = refl; long = refl }
+is_maxed = record {
+  number = 1;
+  runs = ap (λ (x : Option ℕ × Bool × Bool). x.0) maxes_then;
+  maximum = 10;
+  acts = acts_then;
+  long = ap (λ (x : Option ℕ × Bool × Bool). x.1) maxes_then;
+}
+
+would_not_max_out : free_alone (replay maximal (since_then all_off 10)) all_off 6 ≡ false
+would_not_max_out = ap (λ (x : Option ℕ × Bool × Bool). x.2) maxes_then
 
 a_maximum_green : AGreen maximal (since_then all_off 10) all_off 6
 a_maximum_green = record {
@@ -237,7 +295,7 @@ a_maximum_green = record {
   few = (let count = maximal_count.0 in omega (arith, count));
   taken = maximal_taken_10;
   untripped = dark_then maximal all_off started maximal_consistent maximal_taken maximal_unlit 10 maximal_in_time;
-  green = maximum_green;
+  green = lacks_its_end all_off (replay maximal (since_then all_off 10)) true maximum_ends;
 }
 
 maximal_pressed : (gone (is_pressed_in_pattern 6) (replay maximal started) (ticks all_off 11)).1 ≡ true
@@ -273,16 +331,6 @@ a_maximum_wait = record {
     long = (let at = now_then maximal all_off started 10 in omega (arith, at));
   };
 }
-
--- maximums that act in free operation alone
-abbrev free_alone : State → Row → ℕ → Bool
-free_alone s row p =
-    is_none (runs s)
-    && has_reached (conflict_timer (phases_given s row) p (held_of (phase_read s p))) (maximum_in_use s.plan p (s.phases p).running_maximum)
-
-would_not_max_out : free_alone (replay maximal (since_then all_off 10)) all_off 6 ≡ false
-unfolding opened maximal
-would_not_max_out = refl
 
 -- the same plan with maximum mode 0, as if 1 were not read: in the same run 6 is not ready in time
 unfoldable demanded : Plan

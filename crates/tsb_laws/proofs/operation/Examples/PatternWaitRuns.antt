@@ -1,7 +1,8 @@
 -- Runs from power-up that meet the premises of the laws of waits in a pattern: of a green that is forced off, of a phase that is
 -- called, and of a coordinated phase; each wait lasts and ends. And a mistake that the first of these laws refuses.
-use Rattle.std.proofs.Common.{◌≡◌, ℕ, ◌+◌, ◌≤◌, Bool, true, false, if◌then◌else◌, max, List, [], ◌∷◌, ◌++◌, Some, None, refl, sym, subst, arith, ◌∙◌}
+use Rattle.std.proofs.Common.{◌≡◌, ℕ, ◌+◌, ◌≤◌, Bool, true, false, if◌then◌else◌, max, List, [], ◌∷◌, ◌++◌, Some, None, refl, sym, ap, subst, arith, ◌∙◌}
 use Rattle.std.specs.List.{list_all}
+use Rattle.tsb_step.specs.tsb_types.declared.interval.Interval.{Interval}
 use Rattle.tsb_step.specs.tsb_types.declared.interval.Interval.TheVariants.{Green}
 use Rattle.tsb_step.specs.tsb_types.declared.row.Row.{Row}
 use Rattle.tsb_step.specs.tsb_plan.declared.object.Object.{Object}
@@ -17,6 +18,7 @@ use Rattle.tsb_step.specs.declared.inputs.Input.TheVariants.{Tick}
 use Rattle.tsb_step.specs.State.{State, interval}
 use Rattle.tsb_step.specs.Tick.{runs, forced, ready}
 use Rattle.tsb_step.specs.Signs.{IsInStep}
+use Rattle.tsb_step.specs.Step.{step}
 use Rattle.tsb_step.specs.Runs.{replay, AreTaken}
 use Rattle.tsb_step.specs.Laws.{IsConsistent, is_unlit}
 use Rattle.tsb_step.proofs.Examples.Scenes.{opened, vehicle}
@@ -25,7 +27,7 @@ use Rattle.tsb_laws.specs.ServedCalls.{longest_initial, IsFullyConcurrent}
 use Rattle.tsb_laws.specs.CoordinatedGreens.{HasGoneOn, is_pressed_in_pattern, IsForcedWithin, is_out, is_called_in_pattern, longest_in_pattern, TurnsInPattern}
 use Rattle.tsb_laws.proofs.safety.Examples.PlanFits.{Fits, consistent}
 use Rattle.tsb_laws.proofs.safety.Examples.TickRuns.{ticks, now_then, plan_then, all_taken, unlit_then, dark_then, none_trips}
-use Rattle.tsb_laws.proofs.safety.Examples.StretchRuns.{gone, goes_on, values_alone_fit, goes_with_all, goes_together}
+use Rattle.tsb_laws.proofs.safety.Examples.StretchRuns.{gone, gone_to, goes_on, came, values_alone_fit, goes_with_all, goes_together}
 use Rattle.tsb_laws.proofs.operation.Examples.CoordinatedRuns.{selected}
 
 -- ## A plan of a cycle of 10 s: 2 and 6 are coordinated, and cars wait at 4 across the barrier
@@ -172,13 +174,35 @@ pressed_11 : (gone (is_pressed_in_pattern 2) (replay round (so_far 1)) (ticks (v
 unfolding opened round
 pressed_11 = refl
 
-is_not_ready_yet : ready (replay round (ticks (vehicle 4) 8 ++ so_far 1)) (vehicle 4) 2 ≡ false
+-- mistakes: a force-off that counts in the tick of its instant alone, when 2 lacks its initial time, and not afterwards
+abbrev forgets_it : State → State
+forgets_it s = record s { phases = λ p. record (s.phases p) { forced = false } }
+
+-- whether 2 is ready now and two ticks later, and what the mistakes then make of it
+abbrev Ends : Type 0
+Ends = Bool × Bool × Bool × Bool
+
+abbrev later_ends : Bool → State → Ends
+later_ends before s = (before, ready s (vehicle 4) 2, forced s 2, ready (forgets_it s) (vehicle 4) 2)
+
+abbrev ends : State → Ends
+ends s = later_ends (ready s (vehicle 4) 2) (step (step s (Tick (vehicle 4))) (Tick (vehicle 4)))
+
+ends_then : ends (replay round (ticks (vehicle 4) 8 ++ so_far 1)) ≡ (false, true, false, false)
 unfolding opened round
-is_not_ready_yet = refl
+ends_then = refl
+
+is_not_ready_yet : ready (replay round (ticks (vehicle 4) 8 ++ so_far 1)) (vehicle 4) 2 ≡ false
+is_not_ready_yet = ap (λ (x : Ends). x.0) ends_then
 
 is_ready : ready (replay round (ticks (vehicle 4) 10 ++ so_far 1)) (vehicle 4) 2 ≡ true
-unfolding opened round
-is_ready = refl
+is_ready = ap (λ (x : Ends). x.1) ends_then
+
+would_not_be : forced (replay round (ticks (vehicle 4) 10 ++ so_far 1)) 2 ≡ false
+would_not_be = ap (λ (x : Ends). x.2) ends_then
+
+would_not_be_ready : ready (forgets_it (replay round (ticks (vehicle 4) 10 ++ so_far 1))) (vehicle 4) 2 ≡ false
+would_not_be_ready = ap (λ (x : Ends). x.3) ends_then
 
 record OfForced (s : State) : Type 0 where
   now : s.now ≡ 1
@@ -217,18 +241,6 @@ a_forced_green = record {
   long = (let at = now_then round (vehicle 4) (so_far 1) 10 in omega (arith, at));
 }
 
--- a force-off that counts in the tick of its instant alone: in that tick 2 lacks its initial time, and now its instant has passed
-would_not_be : forced (replay round (ticks (vehicle 4) 10 ++ so_far 1)) 2 ≡ false
-unfolding opened round
-would_not_be = refl
-
-abbrev forgets_it : State → State
-forgets_it s = record s { phases = λ p. record (s.phases p) { forced = false } }
-
-would_not_be_ready : ready (forgets_it (replay round (ticks (vehicle 4) 10 ++ so_far 1))) (vehicle 4) 2 ≡ false
-unfolding opened round
-would_not_be_ready = refl
-
 -- ## 4 is served: it is called from tick 1 on, and Green after tick 51
 
 record Return (test : State → Input → Bool) (plan : Plan) (base later : List Input) (k j h : ℕ) (r : Ring) (c : ℕ) : Type 0 where
@@ -244,13 +256,14 @@ record Return (test : State → Input → Bool) (plan : Plan) (base later : List
   out : HasGoneOn test plan base later
   comes : interval (replay plan (later ++ base)) c ≡ Green
 
-called_51 : (gone (is_called_in_pattern 4) (replay round (so_far 0)) (ticks (vehicle 4) 51)).1 ≡ true
+came_4 : came 4 (gone (is_called_in_pattern 4) (replay round (so_far 0)) (ticks (vehicle 4) 51)) ≡ (true, Green)
 unfolding opened round
-called_51 = refl
+came_4 = refl
 
 comes_4 : interval (replay round (ticks (vehicle 4) 51 ++ so_far 0)) 4 ≡ Green
-unfolding opened round
-comes_4 = refl
+comes_4 =
+    sym (ap (λ (s : State). interval s 4) (gone_to (is_called_in_pattern 4) round (so_far 0) (ticks (vehicle 4) 51)))
+    ∙ ap (λ (x : Bool × Interval). x.1) came_4
 
 runs_at_0 : Runs (replay round (so_far 0)) 4
 unfolding opened round
@@ -267,19 +280,20 @@ a_wait = record {
   in_step = runs_at_0.in_step;
   ringed = runs_at_0.ringed;
   times = turns_then 0;
-  out = goes_on (is_called_in_pattern 4) round (so_far 0) (ticks (vehicle 4) 51) called_51;
+  out = goes_on (is_called_in_pattern 4) round (so_far 0) (ticks (vehicle 4) 51) (ap (λ (x : Bool × Interval). x.0) came_4);
   comes = comes_4;
 }
 
 -- ## 2 returns: it is out from tick 21 on, and Green again after tick 90
 
-out_69 : (gone (is_out 2) (replay round (so_far 21)) (ticks (vehicle 4) 69)).1 ≡ true
+came_2 : came 2 (gone (is_out 2) (replay round (so_far 21)) (ticks (vehicle 4) 69)) ≡ (true, Green)
 unfolding opened round
-out_69 = refl
+came_2 = refl
 
 comes_2 : interval (replay round (ticks (vehicle 4) 69 ++ so_far 21)) 2 ≡ Green
-unfolding opened round
-comes_2 = refl
+comes_2 =
+    sym (ap (λ (s : State). interval s 2) (gone_to (is_out 2) round (so_far 21) (ticks (vehicle 4) 69)))
+    ∙ ap (λ (x : Bool × Interval). x.1) came_2
 
 runs_at_21 : Runs (replay round (so_far 21)) 2
 unfolding opened round
@@ -296,6 +310,6 @@ a_return = record {
   in_step = runs_at_21.in_step;
   ringed = runs_at_21.ringed;
   times = turns_then 21;
-  out = goes_on (is_out 2) round (so_far 21) (ticks (vehicle 4) 69) out_69;
+  out = goes_on (is_out 2) round (so_far 21) (ticks (vehicle 4) 69) (ap (λ (x : Bool × Interval). x.0) came_2);
   comes = comes_2;
 }

@@ -1,6 +1,8 @@
 -- A run from power-up that meets all premises of the laws of greens that end in their permissive time, and mistakes that these
 -- laws refuse.
-use Rattle.std.proofs.Common.{◌≡◌, ℕ, ◌+◌, ◌≤◌, Bool, true, false, List, [], ◌∷◌, Some, None, refl, arith, inl}
+use Rattle.std.proofs.Common.{◌≡◌, ℕ, ◌+◌, ◌≤◌, Bool, true, false, List, [], ◌∷◌, Option, Some, None, refl, ap, arith, inl}
+use Rattle.tsb_step.specs.tsb_types.declared.interval.Interval.TheVariants.{Green}
+use Rattle.tsb_step.specs.tsb_types.declared.interval.PedestrianInterval.TheVariants.{DontWalk}
 use Rattle.tsb_step.specs.tsb_types.declared.row.Row.{Row}
 use Rattle.tsb_step.specs.tsb_plan.declared.object.Object.{Object}
 use Rattle.tsb_step.specs.tsb_plan.declared.object.Object.TheVariants.{PhaseMinimumGreen, PatternOffsetTime, PatternPermissiveTime}
@@ -12,17 +14,17 @@ use Rattle.tsb_step.specs.tsb_rules.Rules.{first_broken}
 use Rattle.tsb_step.specs.tsb_coord.Coordinated.{force_off}
 use Rattle.tsb_step.specs.declared.inputs.Input.{Input}
 use Rattle.tsb_step.specs.State.{State}
-use Rattle.tsb_step.specs.Tick.{runs, hold, at_force_off, conflict, ready}
+use Rattle.tsb_step.specs.Tick.{runs, hold, at_force_off, ready}
 use Rattle.tsb_step.specs.Runs.{replay, AreTaken}
 use Rattle.tsb_step.specs.Laws.{IsConsistent, is_unlit}
 use Rattle.tsb_step.proofs.Examples.Scenes.{opened, vehicle}
 use Rattle.tsb_laws.specs.ServedCalls.{longest_initial}
 use Rattle.tsb_laws.specs.CoordinatedGreens.{is_pressed_in_pattern}
-use Rattle.tsb_laws.specs.PatternEnds.{LacksOnlyItsEnd, next_counter, IsInPermissiveTime}
+use Rattle.tsb_laws.specs.PatternEnds.{next_counter, IsInPermissiveTime}
 use Rattle.tsb_laws.proofs.safety.Examples.PlanFits.{Fits, values_fit, quad_fits, consistent}
 use Rattle.tsb_laws.proofs.safety.Examples.TickRuns.{ticks, now_then, all_taken, dark_then, none_trips}
 use Rattle.tsb_laws.proofs.safety.Examples.StretchRuns.{gone, goes_on}
-use Rattle.tsb_laws.proofs.operation.Examples.PatternEndRuns.{started, since_then, AGreen, AWait}
+use Rattle.tsb_laws.proofs.operation.Examples.PatternEndRuns.{started, since_then, AGreen, AWait, ends, lacks_its_end}
 
 -- ## 8 is called 12 ticks after the instant of 6, which is coordinated: the permissive time is 5 s
 
@@ -68,9 +70,9 @@ permitting_in_time = let at = permitting_ticked in omega (arith, at)
 permitting_taken_10 : AreTaken permitting (since_then (vehicle 8) 10)
 permitting_taken_10 = all_taken permitting (vehicle 8) started 10 permitting_taken permitting_in_time
 
-permitted_green : LacksOnlyItsEnd (replay permitting (since_then (vehicle 8) 10)) (vehicle 8) 6
+permitted_ends : ends (vehicle 8) (replay permitting (since_then (vehicle 8) 10)) ≡ (Green, true, None, true, DontWalk, true)
 unfolding opened permitting
-permitted_green = record { green = refl; conflict = refl; quiet = refl; initial = refl; dont_walk = refl }
+permitted_ends = refl
 
 runs_1 : runs (replay permitting started) ≡ Some 1
 unfolding opened permitting
@@ -133,26 +135,41 @@ a_permitted_wait = record {
   };
 }
 
+-- force-off at the instant alone
+abbrev at_instant_alone : State → ℕ → Bool
+at_instant_alone s p = at_force_off s p
+
+-- the pattern that runs, whether 6 is held, the counter of the next tick, and whether 6 is forced off by the mistake
+abbrev Permits : Type 0
+Permits = Option ℕ × Bool × ℕ × Bool
+
+abbrev permits : State → Permits
+permits s = (runs s, hold s 6, next_counter s 1, at_instant_alone s 6)
+
 -- in the last of these ticks it is still in its permissive time
-at_782 : next_counter (replay permitting (since_then (vehicle 8) 10)) 1 ≡ 782
+permits_then : permits (replay permitting (since_then (vehicle 8) 10)) ≡ (Some 1, true, 782, false)
 unfolding opened permitting
-at_782 = refl
+permits_then = refl
+
+at_782 : next_counter (replay permitting (since_then (vehicle 8) 10)) 1 ≡ 782
+at_782 = ap (λ (x : Permits). x.2) permits_then
+
+would_miss_the_call : at_instant_alone (replay permitting (since_then (vehicle 8) 10)) 6 ≡ false
+would_miss_the_call = ap (λ (x : Permits). x.3) permits_then
 
 record PermittedThen : Type 0 where
-  runs : runs (replay permitting (since_then (vehicle 8) 10)) ≡ Some 1
-  held : hold (replay permitting (since_then (vehicle 8) 10)) 6 ≡ true
   permits : permissive_time (replay permitting (since_then (vehicle 8) 10)).plan 1 ≡ 50
   own : force_off (replay permitting (since_then (vehicle 8) 10)).plan (Some 1) 6 ≡ Some 760
 
 permitted_then : PermittedThen
 unfolding opened permitting
-permitted_then = record { runs = refl; held = refl; permits = refl; own = refl }
+permitted_then = record { permits = refl; own = refl }
 
 is_permitted_then : IsInPermissiveTime (replay permitting (since_then (vehicle 8) 10)) 6
 is_permitted_then = record {
   number = 1;
-  runs = permitted_then.runs;
-  held = permitted_then.held;
+  runs = ap (λ (x : Permits). x.0) permits_then;
+  held = ap (λ (x : Permits). x.1) permits_then;
   some = (let at = permitted_then.permits in omega (arith, at));
   instant = 760;
   own = permitted_then.own;
@@ -170,18 +187,10 @@ a_permitted_green = record {
     few = (let count = permitting_count.0 in omega (arith, count));
     taken = permitting_taken_10;
     untripped = dark_then permitting (vehicle 8) started permitting_consistent permitting_taken permitting_unlit 10 permitting_in_time;
-    green = permitted_green;
+    green = lacks_its_end (vehicle 8) (replay permitting (since_then (vehicle 8) 10)) true permitted_ends;
   };
   permitted = is_permitted_then;
 }
-
--- force-off at the instant alone
-abbrev at_instant_alone : State → ℕ → Bool
-at_instant_alone s p = at_force_off s p
-
-would_miss_the_call : at_instant_alone (replay permitting (since_then (vehicle 8) 10)) 6 ≡ false
-unfolding opened permitting
-would_miss_the_call = refl
 
 -- the same plan without a permissive time, as if it were not read: in the same run 6 is not ready in time
 unfoldable strict : Plan

@@ -1,7 +1,8 @@
 -- Runs from power-up that meet all premises of the laws of greens with a conflict and of called phases, and mistakes that
 -- these laws refuse.
-use Rattle.std.proofs.Common.{◌≡◌, ◌≢◌, ℕ, ◌+◌, ◌≤◌, ◌==◌, Bool, true, false, if◌then◌else◌, max, List, [], ◌∷◌, ◌++◌, Some, None, refl, sym, subst, ◌∙◌, inr, arith}
+use Rattle.std.proofs.Common.{◌≡◌, ◌≢◌, ℕ, ◌+◌, ◌≤◌, ◌==◌, Bool, true, false, if◌then◌else◌, max, List, [], ◌∷◌, ◌++◌, Option, Some, None, refl, sym, ap, subst, ◌∙◌, inr, arith}
 use Rattle.std.specs.List.{list_all}
+use Rattle.tsb_step.specs.tsb_types.declared.interval.Interval.{Interval}
 use Rattle.tsb_step.specs.tsb_types.declared.interval.Interval.TheVariants.{Green}
 use Rattle.tsb_step.specs.tsb_types.Lists.{among, some_passes, later}
 use Rattle.tsb_step.specs.tsb_types.Sets.{all_off, set_of_detectors}
@@ -20,6 +21,7 @@ use Rattle.tsb_step.specs.declared.inputs.Input.{Input}
 use Rattle.tsb_step.specs.declared.inputs.Input.TheVariants.{Tick}
 use Rattle.tsb_step.specs.State.{State, interval}
 use Rattle.tsb_step.specs.Tick.{phases_given, phase_read, ready}
+use Rattle.tsb_step.specs.Step.{step}
 use Rattle.tsb_step.specs.Runs.{replay, AreTaken}
 use Rattle.tsb_step.specs.Laws.{IsConsistent, is_unlit}
 use Rattle.tsb_step.proofs.GoodLemmas.{good_run}
@@ -29,7 +31,7 @@ use Rattle.tsb_laws.specs.ServedCalls.{is_pressed, HasBeenPressed, longest_maxim
 use Rattle.tsb_laws.specs.CoordinatedGreens.{HasGoneOn}
 use Rattle.tsb_laws.proofs.safety.Examples.PlanFits.{Fits, consistent}
 use Rattle.tsb_laws.proofs.safety.Examples.TickRuns.{ticks, now_then, plan_then, largest_then, all_taken, dark_then, none_trips}
-use Rattle.tsb_laws.proofs.safety.Examples.StretchRuns.{gone, goes_on, held_since, pressed_since, waited_since, values_alone_fit, goes_with_all, goes_together, is_clearing, none_clears}
+use Rattle.tsb_laws.proofs.safety.Examples.StretchRuns.{gone, gone_to, goes_on, shorter, came, held_since, pressed_since, waited_since, values_alone_fit, goes_with_all, goes_together, is_clearing, none_clears}
 
 -- ## A plan of small times: 1, 2 and 4 in ring 1, 6 and 8 in ring 2, and 4 and 8 on side 2
 
@@ -173,13 +175,26 @@ pressed_11 : (gone (is_pressed 1) (replay brisk alone) (ticks cars 11)).1 ≡ tr
 unfolding opened brisk
 pressed_11 = refl
 
-is_not_ready_yet : ready (replay brisk (run 9)) cars 1 ≡ false
+-- a mistake: a green that extends while an output is on, though it has had a conflict for its maximum
+abbrev extended : State → Row → ℕ → Bool
+extended s row p = is_gapped s.plan (phases_given s row) p (held_of (phase_read s p))
+
+-- whether it is ready now and a tick later, and whether it then would be by the mistake
+abbrev ends : State → Bool × Bool × Bool
+ends s = (ready s cars 1, ready (step s (Tick cars)) cars 1, extended (step s (Tick cars)) cars 1)
+
+ends_then : ends (replay brisk (run 9)) ≡ (false, true, false)
 unfolding opened brisk
-is_not_ready_yet = refl
+ends_then = refl
+
+is_not_ready_yet : ready (replay brisk (run 9)) cars 1 ≡ false
+is_not_ready_yet = ap (λ (x : Bool × Bool × Bool). x.0) ends_then
 
 is_ready_then : ready (replay brisk (run 10)) cars 1 ≡ true
-unfolding opened brisk
-is_ready_then = refl
+is_ready_then = ap (λ (x : Bool × Bool × Bool). x.1) ends_then
+
+would_extend : extended (replay brisk (run 10)) cars 1 ≡ false
+would_extend = ap (λ (x : Bool × Bool × Bool). x.2) ends_then
 
 -- its times
 record Times (x : Plan) : Type 0 where
@@ -225,13 +240,15 @@ a_press = record {
 
 -- ## A phase that comes: 2 is Green 41 ticks later, as 1 has ended and cleared
 
-waits_2 : (gone (is_waiting 2) (replay brisk alone) (ticks cars 41)).1 ≡ true
+came_2 : came 2 (gone (is_waiting 2) (replay brisk alone) (ticks cars 41)) ≡ (true, Green)
 unfolding opened brisk
-waits_2 = refl
+came_2 = refl
+
+waits_2 : (gone (is_waiting 2) (replay brisk alone) (ticks cars 41)).1 ≡ true
+waits_2 = ap (λ (x : Bool × Interval). x.0) came_2
 
 comes_2 : interval (replay brisk (run 41)) 2 ≡ Green
-unfolding opened brisk
-comes_2 = refl
+comes_2 = sym (ap (λ (s : State). interval s 2) (gone_to (is_waiting 2) brisk alone (ticks cars 41))) ∙ ap (λ (x : Bool × Interval). x.1) came_2
 
 -- ring 1 has started 1, and 2 is still to come
 record AtFirst : Type 0 where
@@ -282,19 +299,32 @@ a_turn = record {
   comes = comes_2;
 }
 
+-- ## 4 waits, and is Green 81 ticks later
+
+came_4 : came 4 (gone (is_waiting 4) (replay brisk alone) (ticks cars 81)) ≡ (true, Green)
+unfolding opened brisk
+came_4 = refl
+
+waits_81 : HasGoneOn (is_waiting 4) brisk alone (ticks cars 81)
+waits_81 = goes_on (is_waiting 4) brisk alone (ticks cars 81) (ap (λ (x : Bool × Interval). x.0) came_4)
+
+comes_4 : interval (replay brisk (run 81)) 4 ≡ Green
+comes_4 = sym (ap (λ (s : State). interval s 4) (gone_to (is_waiting 4) brisk alone (ticks cars 81))) ∙ ap (λ (x : Bool × Interval). x.1) came_4
+
 -- ## A crossing that is to begin: in the tick after 50, as 2 has come and ended
 
-waits_50 : (gone (is_waiting 4) (replay brisk alone) (ticks cars 50)).1 ≡ true
-unfolding opened brisk
-waits_50 = refl
+-- whether all were outside, and the phase that the rings then cross to
+abbrev crossed : State × Bool → Bool × Option ℕ
+crossed x = (x.1, x.0.rings.crossing)
 
-stays_outside : (gone (λ s i. is_outside s) (replay brisk alone) (ticks cars 51)).1 ≡ true
+crosses_then : crossed (gone (λ s i. is_outside s) (replay brisk alone) (ticks cars 51)) ≡ (true, Some 2)
 unfolding opened brisk
-stays_outside = refl
+crosses_then = refl
 
 crosses_to_2 : (replay brisk (run 51)).rings.crossing ≡ Some 2
-unfolding opened brisk
-crosses_to_2 = refl
+crosses_to_2 =
+    sym (ap (λ (s : State). s.rings.crossing) (gone_to (λ s i. is_outside s) brisk alone (ticks cars 51)))
+    ∙ ap (λ (x : Bool × Option ℕ). x.1) crosses_then
 
 record Barrier (plan : Plan) (base later : List Input) (row : Row) (q k h d : ℕ) : Type 0 where
   consistent : IsConsistent plan
@@ -317,23 +347,15 @@ a_barrier = record {
   full = full;
   takes = takes_then;
   apart = λ e. (let two = at_first.across in let one = at_first.side in let bad : 2 ≡ 1 = sym two ∙ e ∙ one in absurd (omega (arith, bad)));
-  waited = waited_since brisk 4 alone (ticks cars 50) (goes_on (is_waiting 4) brisk alone (ticks cars 50) waits_50);
+  waited = waited_since brisk 4 alone (ticks cars 50) (shorter (is_waiting 4) brisk alone cars 50 81 (omega arith) waits_81);
   outside = held_since is_outside brisk alone (ticks cars 50) outside.1 outside.0;
   crosses = crosses_to_2;
 }
   where
     outside : HasGoneOn (λ s i. is_outside s) brisk alone (ticks cars 51)
-    outside = goes_on (λ s i. is_outside s) brisk alone (ticks cars 51) stays_outside
+    outside = goes_on (λ s i. is_outside s) brisk alone (ticks cars 51) (ap (λ (x : Bool × Option ℕ). x.0) crosses_then)
 
 -- ## A phase of another side that is served: 4 is Green 81 ticks later
-
-waits_81 : (gone (is_waiting 4) (replay brisk alone) (ticks cars 81)).1 ≡ true
-unfolding opened brisk
-waits_81 = refl
-
-comes_4 : interval (replay brisk (run 81)) 4 ≡ Green
-unfolding opened brisk
-comes_4 = refl
 
 record Service (plan : Plan) (base later : List Input) (r : Ring) (q k h : ℕ) : Type 0 where
   consistent : IsConsistent plan
@@ -355,16 +377,6 @@ a_service = record {
   full = full;
   takes = takes_then;
   ringed = at_first.ringed_4;
-  waited = waited_since brisk 4 alone (ticks cars 81) (goes_on (is_waiting 4) brisk alone (ticks cars 81) waits_81);
+  waited = waited_since brisk 4 alone (ticks cars 81) waits_81;
   comes = comes_4;
 }
-
--- ## A green that extends while an output is on
-
--- 1 has had a conflict for its maximum, and its detector is still on: such a green would not be ready in time
-abbrev extended : State → Row → ℕ → Bool
-extended s row p = is_gapped s.plan (phases_given s row) p (held_of (phase_read s p))
-
-would_extend : extended (replay brisk (run 10)) cars 1 ≡ false
-unfolding opened brisk
-would_extend = refl

@@ -1,5 +1,5 @@
 -- A run from power-up that meets all premises of the law of all red, and a mistake that the law refuses.
-use Rattle.std.proofs.Common.{◌≡◌, ℕ, zero, suc, ◌+◌, ◌≤◌, ◌==◌, Bool, true, false, not, ◌&&◌, ◌||◌, List, [], ◌∷◌, ◌++◌, Option, Some, None, refl, ap, ap₂, arith, ◌∙◌}
+use Rattle.std.proofs.Common.{◌≡◌, ℕ, zero, suc, ◌+◌, ◌≤◌, ◌==◌, Bool, true, false, not, ◌&&◌, ◌||◌, List, [], ◌∷◌, ◌++◌, Option, Some, None, refl, sym, ap, ap₂, arith, ◌∙◌}
 use Rattle.std.proofs.lemmas.Bool.{and_parts}
 use Rattle.tsb_step.specs.tsb_types.Sets.{all_off, set_of_detectors}
 use Rattle.tsb_step.specs.tsb_types.Intervals.{in_service}
@@ -22,6 +22,7 @@ use Rattle.tsb_step.specs.declared.inputs.Input.{Input}
 use Rattle.tsb_step.specs.declared.inputs.Input.TheVariants.{Tick}
 use Rattle.tsb_step.specs.State.{State, start, interval}
 use Rattle.tsb_step.specs.Tick.{rings_given}
+use Rattle.tsb_step.specs.Step.{step}
 use Rattle.tsb_step.specs.Runs.{replay, AreTaken}
 use Rattle.tsb_step.specs.Laws.{IsConsistent, is_unlit}
 use Rattle.tsb_step.specs.Tables.{greatest_for, greatest_of}
@@ -35,7 +36,7 @@ use Rattle.tsb_laws.proofs.safety.Examples.CoordinationRuns.{omits}
 use Rattle.tsb_laws.proofs.safety.Examples.PlanFits.{Fits, consistent}
 use Rattle.tsb_laws.proofs.safety.Examples.TickRuns.{ticks, now_then, plan_then, largest_then, all_taken, unlit_then, none_trips}
 use Rattle.tsb_laws.proofs.safety.Examples.MistakenTicks.{tick_given, for_all}
-use Rattle.tsb_laws.proofs.safety.Examples.StretchRuns.{gone, goes_on, goes_on_as, values_alone_fit, red_where_none}
+use Rattle.tsb_laws.proofs.safety.Examples.StretchRuns.{gone, gone_to, came as shown_after, goes_on, goes_on_as, values_alone_fit, red_where_none}
 
 -- ## 2 is called again after its green, and waits for its red revert of 5 s when 4, across the barrier, has cleared
 
@@ -119,19 +120,25 @@ is_red s = not (some_passes (λ p. in_service (interval s p)) (phases s.plan))
 abbrev is_red_and_wanted : State → Input → Bool
 is_red_and_wanted s i = is_red s && is_wanted s i
 
--- up to tick 81, and in tick 82 2 starts
-red_for_18 : (gone is_red_and_wanted (replay reverting base) (ticks (vehicle 2) 19)).1 ≡ true
+-- whether all is red now, whether it stays so for 19 ticks from the next one on, and the interval of 2 after these
+abbrev course : State → Bool × (Bool × Interval)
+course s = (is_red s, shown_after 2 (gone is_red_and_wanted (step s (Tick (vehicle 2))) (ticks (vehicle 2) 19)))
+
+-- it is not red one tick before, then red up to tick 81, and in tick 82 2 starts
+reds : course (replay reverting (ticks (vehicle 2) 60 ++ came)) ≡ (false, (true, Green))
 unfolding opened reverting
-red_for_18 = refl
+reds = refl
+
+red_for_18 : (gone is_red_and_wanted (replay reverting base) (ticks (vehicle 2) 19)).1 ≡ true
+red_for_18 = ap (λ (x : Bool × (Bool × Interval)). x.1.0) reds
 
 starts_2 : interval (replay reverting (ticks (vehicle 2) 19 ++ base)) 2 ≡ Green
-unfolding opened reverting
-starts_2 = refl
+starts_2 =
+    sym (ap (λ (s : State). interval s 2) (gone_to is_red_and_wanted reverting base (ticks (vehicle 2) 19)))
+    ∙ ap (λ (x : Bool × (Bool × Interval)). x.1.1) reds
 
--- and one tick before it was not red
 was_clearing : is_red (replay reverting (ticks (vehicle 2) 60 ++ came)) ≡ false
-unfolding opened reverting
-was_clearing = refl
+was_clearing = ap (λ (x : Bool × (Bool × Interval)). x.0) reds
 
 all_red_at : (later : List Input) → AreTaken reverting (later ++ base) → is_red (replay reverting (later ++ base)) ≡ true → IsAllRed (replay reverting (later ++ base))
 all_red_at later taken h =

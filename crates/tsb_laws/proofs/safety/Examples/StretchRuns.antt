@@ -1,9 +1,12 @@
 -- Stretches that are computed input by input, the oldest first: a test is looked at once for each input, and the state of
 -- each is found once. And what holds of a plan that is given by its values alone.
-use Rattle.std.proofs.Common.{◌≡◌, ◌≢◌, ℕ, ◌+◌, ◌==◌, Bool, true, false, not, ◌&&◌, ◌||◌, List, [], ◌∷◌, ◌++◌, refl, sym, ap, arith, ◌∙◌, inl, inr}
+use Rattle.std.proofs.Common.{zero, suc, ◌≡◌, ◌≢◌, ℕ, ◌+◌, ◌≤◌, ◌==◌, Bool, true, false, not, ◌&&◌, ◌||◌, List, [], ◌∷◌, ◌++◌, refl, sym, ap, subst, arith, ◌∙◌, inl, inr}
 use Rattle.std.specs.List.{list_all}
 use Rattle.std.proofs.lemmas.Bool.{and_parts, and_from, or_cases, cases_Bool, eq-eqb, eqb-true, false≢true, true≢false}
+use Rattle.std.proofs.lemmas.Bool.Decides.{nat_tests}
+use Rattle.tsb_step.specs.tsb_types.declared.interval.Interval.{Interval}
 use Rattle.tsb_step.specs.tsb_types.Intervals.{in_service, is_green}
+use Rattle.tsb_step.specs.tsb_types.declared.row.Row.{Row}
 use Rattle.tsb_step.specs.tsb_types.Lists.{among, some_passes}
 use Rattle.tsb_step.specs.tsb_plan.declared.object.Object.{Object}
 use Rattle.tsb_step.specs.tsb_plan.Plan.{Plan, empty, phases, is_concurrent, ring_of, side_of, with_values}
@@ -23,6 +26,7 @@ use Rattle.tsb_laws.specs.Stretches.{has_held_since}
 use Rattle.tsb_laws.specs.ServedCalls.{is_pressed, HasBeenPressed, is_waiting, HasWaited, IsFullyConcurrent}
 use Rattle.tsb_laws.specs.CoordinatedGreens.{HasGoneOn}
 use Rattle.tsb_laws.proofs.safety.SideSoughtLemmas.{found_some}
+use Rattle.tsb_laws.proofs.safety.Examples.TickRuns.{ticks}
 use Rattle.tsb_laws.proofs.safety.Examples.PlanFits.{keeps, Fits, values_fit}
 
 -- ## A stretch, computed
@@ -36,8 +40,12 @@ abbrev pub gone : (State → Input → Bool) → State → List Input → State 
 gone test s [] = (s, true)
 gone test s (i ∷ later) = one_more test i (gone test s later)
 
+-- whether the test held, and the interval of a phase after the stretch
+abbrev pub came : ℕ → State × Bool → Bool × Interval
+came p x = (x.1, interval x.0 p)
+
 module _ (test : State → Input → Bool) (plan : Plan) (base : List Input) where
-  gone_to : (later : List Input) → (gone test (replay plan base) later).0 ≡ replay plan (later ++ base)
+  pub gone_to : (later : List Input) → (gone test (replay plan base) later).0 ≡ replay plan (later ++ base)
   gone_to [] = refl
   gone_to (i ∷ later) = ap (λ (s : State). step s i) (gone_to later)
 
@@ -46,6 +54,20 @@ module _ (test : State → Input → Bool) (plan : Plan) (base : List Input) whe
   goes_on (i ∷ later) h =
       let both = and_parts (gone test (replay plan base) later).1 (test (gone test (replay plan base) later).0 i) h in
       (goes_on later both.0, sym (ap (λ (s : State). test s i) (gone_to later)) ∙ both.1)
+
+-- what has gone on for so many ticks has gone on for fewer
+pub shorter : (test : State → Input → Bool) (plan : Plan) (base : List Input) (row : Row) (n k : ℕ) → n ≤ k → HasGoneOn test plan base (ticks row k) →
+    HasGoneOn test plan base (ticks row n)
+shorter test plan base row n zero few h =
+    let none : n ≡ 0 = omega (arith, few) in subst (λ (m : ℕ). HasGoneOn test plan base (ticks row m)) (sym none) h
+shorter test plan base row n (suc k) few h =
+    elim (cases_Bool (n == suc k)) [
+      | inl same ↦ subst (λ (m : ℕ). HasGoneOn test plan base (ticks row m)) (sym (eqb-true n (suc k) same)) h
+      | inr other ↦ shorter test plan base row n k (before other) h.0
+    ]
+  where
+    before : (n == suc k) ≡ false → n ≤ k
+    before other = grind (arith, nat_tests, few, other)
 
 -- what follows from the test at each input has gone on as well
 pub goes_on_as : (test other : State → Input → Bool) → ((s : State) (i : Input) → test s i ≡ true → other s i ≡ true) → (plan : Plan) (base later : List Input) →

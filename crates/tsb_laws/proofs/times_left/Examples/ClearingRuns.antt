@@ -1,7 +1,7 @@
 -- A run from power-up that meets the premises of the laws of what is left of a clearance: preempt 1, which wants 1 and 6, ends
 -- the green of 2 at once. 2 is in yellow for 30 ticks and in red clearance for 10, and 1 waits for it. And mistakes that these
 -- laws refuse.
-use Rattle.std.proofs.Common.{zero, suc, ◌≡◌, ℕ, true, false, List, [], ◌∷◌, ◌++◌, Option, Some, None, refl, ap, arith}
+use Rattle.std.proofs.Common.{zero, suc, ◌≡◌, ℕ, Bool, true, false, List, [], ◌∷◌, ◌++◌, Option, Some, None, refl, sym, ap, arith, ◌∙◌}
 use Rattle.tsb_step.specs.tsb_types.declared.interval.Interval.{Interval}
 use Rattle.tsb_step.specs.tsb_types.declared.interval.Interval.TheVariants.{Yellow, RedClear}
 use Rattle.tsb_step.specs.tsb_types.Sets.{all_off}
@@ -20,13 +20,14 @@ use Rattle.tsb_step.specs.State.{State, interval}
 use Rattle.tsb_step.specs.Status.{RingStatus, status}
 use Rattle.tsb_step.specs.Tick.{over}
 use Rattle.tsb_step.specs.Waits.{left, phases_again, served, lack, committed_wait, free_wait, wait}
+use Rattle.tsb_step.specs.Step.{step}
 use Rattle.tsb_step.specs.Runs.{replay, AreTaken}
 use Rattle.tsb_step.specs.Laws.{IsConsistent}
 use Rattle.tsb_step.proofs.Examples.Scenes.{opened, vehicle}
 use Rattle.tsb_laws.specs.TimesLeft.{IsShown, InEachTick, KeepsYellow, KeepsRedClear, ToClear, here, HasBegun, KeepsBoth}
 use Rattle.tsb_laws.proofs.safety.Examples.PlanFits.{Fits, values_fit, quad_fits, consistent}
 use Rattle.tsb_laws.proofs.safety.Examples.TickRuns.{ticks, now_then, plan_then, all_taken}
-use Rattle.tsb_laws.proofs.times_left.Examples.TickTests.{each_plan, IsStretch, ticks_stretch}
+use Rattle.tsb_laws.proofs.times_left.Examples.TickTests.{ticked, ticked_is, each_plan, IsStretch, ticks_stretch}
 use Rattle.tsb_laws.proofs.times_left.Examples.LeftRuns.{sooner}
 
 abbrev ending_values : List (Object × ℕ × ℕ)
@@ -99,16 +100,35 @@ a_yellow = record {
 }
 
 -- its interval, and what is shown then
-abbrev interval_shown : State → Interval × Option ℕ × Option ℕ
+abbrev Cleared : Type 0
+Cleared = Interval × Option ℕ × Option ℕ
+
+abbrev interval_shown : State → Cleared
 interval_shown s = (interval s 2, (ring_1 s).phase, (ring_1 s).red_clearance_left)
 
-yellow_at_29 : interval_shown (replay ending (ticks (vehicle 1) 29 ++ ended)) ≡ (Yellow, Some 2, None)
+-- whether it is over in the next tick, and in the one after that
+abbrev over_soon : State → Bool × Bool
+over_soon s = (over s 2, over (step s (Tick (vehicle 1))) 2)
+
+-- what its red clearance shows, what a mistake would show, and its end after eight ticks more
+abbrev red_clear_on : State → Cleared × ℕ × (Bool × Bool)
+red_clear_on s = (interval_shown s, sooner (red_clear s.plan 2) (s.phases 2).timer, over_soon (ticked (vehicle 1) s 8))
+
+abbrev Course : Type 0
+Course = (Cleared × Bool) × (Cleared × ℕ × (Bool × Bool))
+
+abbrev course : State → Course
+course s = ((interval_shown s, over s 2), red_clear_on (step s (Tick (vehicle 1))))
+
+runs_on : course (replay ending (ticks (vehicle 1) 29 ++ ended)) ≡ (((Yellow, Some 2, None), false), ((RedClear, Some 2, Some 10), 9, (false, true)))
 unfolding shown_opened
-yellow_at_29 = refl
+runs_on = refl
+
+yellow_at_29 : interval_shown (replay ending (ticks (vehicle 1) 29 ++ ended)) ≡ (Yellow, Some 2, None)
+yellow_at_29 = ap (λ (x : Course). x.0.0) runs_on
 
 red_clear_at_30 : interval_shown (replay ending (ticks (vehicle 1) 30 ++ ended)) ≡ (RedClear, Some 2, Some 10)
-unfolding shown_opened
-red_clear_at_30 = refl
+red_clear_at_30 = ap (λ (x : Course). x.1.0) runs_on
 
 yellow_would_show_29 : sooner (yellow_change (replay ending ended).plan 2) ((replay ending ended).phases 2).timer ≡ 29
 unfolding opened ending
@@ -130,23 +150,23 @@ a_red_clearance : Meets cleared (ticks (vehicle 1) 9) (IsShown (replay ending cl
 a_red_clearance = record {
   stretch = ticks_stretch ending (vehicle 1) cleared 9 ending_consistent cleared_taken refl (let at = cleared_at in omega (arith, at));
   shown = record {
-    phase = ap (λ (x : Interval × Option ℕ × Option ℕ). x.1) red_clear_at_30;
-    left = ap (λ (x : Interval × Option ℕ × Option ℕ). x.2) red_clear_at_30;
+    phase = ap (λ (x : Cleared). x.1) red_clear_at_30;
+    left = ap (λ (x : Cleared). x.2) red_clear_at_30;
   };
   each = each_plan (λ (x : Plan). red_clear x 2) ending (vehicle 1) cleared 10;
 }
 
+over_then : over_soon (replay ending (ticks (vehicle 1) 8 ++ cleared)) ≡ (false, true)
+over_then = sym (ap over_soon (ticked_is ending (vehicle 1) cleared 8)) ∙ ap (λ (x : Course). x.1.2) runs_on
+
 over_in_10 : over (replay ending (ticks (vehicle 1) 9 ++ cleared)) 2 ≡ true
-unfolding opened ending
-over_in_10 = refl
+over_in_10 = ap (λ (x : Bool × Bool). x.1) over_then
 
 not_over_in_9 : over (replay ending (ticks (vehicle 1) 8 ++ cleared)) 2 ≡ false
-unfolding opened ending
-not_over_in_9 = refl
+not_over_in_9 = ap (λ (x : Bool × Bool). x.0) over_then
 
 red_clearance_would_show_9 : sooner (red_clear (replay ending cleared).plan 2) ((replay ending cleared).phases 2).timer ≡ 9
-unfolding opened ending
-red_clearance_would_show_9 = refl
+red_clearance_would_show_9 = ap (λ (x : Course). x.1.1) runs_on
 
 -- ## What 1 waits for: both together
 
@@ -178,5 +198,4 @@ unfolding opened ending
 wait_would_show_30 = refl
 
 not_over_in_30 : over (replay ending (ticks (vehicle 1) 29 ++ ended)) 2 ≡ false
-unfolding opened ending
-not_over_in_30 = refl
+not_over_in_30 = ap (λ (x : Course). x.0.1) runs_on

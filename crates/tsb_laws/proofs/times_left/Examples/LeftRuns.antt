@@ -2,6 +2,7 @@
 -- for 10, its green lasts 20 ticks at least and its gap is 23. Without a conflict it rests; where 1 is called it maxes out after
 -- 20. And mistakes that these laws refuse.
 use Rattle.std.proofs.Common.{◌≡◌, ℕ, ◌+◌, ◌-◌, ◌≤◌, ◌==◌, Bool, true, false, not, ◌&&◌, List, [], ◌∷◌, ◌++◌, Option, Some, None, refl, sym, ap, arith, ◌∙◌}
+use Rattle.std.proofs.Math.ListN.{replicate}
 use Rattle.std.proofs.lemmas.Bool.{not-true, and_parts, eqb-true}
 use Rattle.tsb_step.specs.tsb_cells.declared.timer.Timer.{Timer}
 use Rattle.tsb_step.specs.tsb_cells.declared.timer.Timer.TheVariants.{Off, On}
@@ -32,7 +33,7 @@ use Rattle.tsb_step.proofs.Examples.Scenes.{opened, vehicle}
 use Rattle.tsb_laws.specs.TimesLeft.{IsShown, InEachTick, KeepsWalk, KeepsClearance, KeepsInitial, has_lasted, KeepsGap, has_gapped, KeepsMaximum, is_maxed_out}
 use Rattle.tsb_laws.proofs.safety.Examples.PlanFits.{Fits, values_fit, quad_fits, consistent}
 use Rattle.tsb_laws.proofs.safety.Examples.TickRuns.{ticks, now_then, all_taken}
-use Rattle.tsb_laws.proofs.times_left.Examples.TickTests.{passes, each_by, IsStretch, ticks_stretch}
+use Rattle.tsb_laws.proofs.times_left.Examples.TickTests.{ticked_is, passes, passes_first, passes_then, shows, each_by, IsStretch, ticks_stretch}
 
 abbrev leaving_values : List (Object × ℕ × ℕ)
 leaving_values =
@@ -101,14 +102,56 @@ at_begin = refl
 stretch_of : (n : ℕ) → n ≤ 500 → IsStretch leaving begun (ticks all_off n)
 stretch_of n few = ticks_stretch leaving all_off begun n leaving_consistent begun_taken refl (let at = begun_at in omega (arith, at, few))
 
--- ## Its walk
+-- ## The ticks of its walk, its clearance, its initial time and its gap
 
 abbrev tests_walk : State → Row → Bool
 tests_walk s row = walk_time s.plan 2 (ended_by (phases_given s row) 2) == 10 && not (is_resting_in_walk s.plan (phases_given s row) 2)
 
-walks_on : passes tests_walk all_off (replay leaving begun) 10 ≡ true
+abbrev tests_clearance : State → Row → Bool
+tests_clearance s row = clearance_time s.plan 2 (ended_by (phases_given s row) 2) == 10
+
+abbrev tests_initial : State → Row → Bool
+tests_initial s row = time_to_last s.plan (phases_given s row) 2 (ended_by (phases_given s row) 2) == 20
+
+abbrev tests_gap : State → Row → Bool
+tests_gap s row =
+    is_green (interval s 2) && (not ((phases_given s row).output 2)
+    && gap s.plan 2 (reduction_timer s.plan (phases_given s row) 2 (held_of (phase_read s 2))) == 23)
+
+abbrev tests_times : State → Row → Bool
+tests_times s row = (tests_walk s row && tests_clearance s row) && (tests_initial s row && tests_gap s row)
+
+-- each of these times stays as it is
+stays_on : passes tests_times all_off (replay leaving begun) 23 ≡ true
 unfolding opened leaving
-walks_on = refl
+stays_on = refl
+
+record AreMet (s : State) (row : Row) : Type 0 where
+  walk : tests_walk s row ≡ true
+  clearance : tests_clearance s row ≡ true
+  initial : tests_initial s row ≡ true
+  gap : tests_gap s row ≡ true
+
+are_met : (s : State) (row : Row) → tests_times s row ≡ true → AreMet s row
+are_met s row h =
+    let halves = and_parts (tests_walk s row && tests_clearance s row) (tests_initial s row && tests_gap s row) h in
+    let first = and_parts (tests_walk s row) (tests_clearance s row) halves.0 in
+    let last = and_parts (tests_initial s row) (tests_gap s row) halves.1 in
+    record { walk = first.0; clearance = first.1; initial = last.0; gap = last.1 }
+
+-- whether it walks, clears, has lasted and has gapped out in the next tick
+abbrev stages : State → List Bool
+stages s =
+    is_walk (pedestrian_part s 2) ∷ is_clearance (pedestrian_part s 2) ∷ has_lasted 2 s all_off ∷ has_gapped 2 s all_off ∷ []
+
+-- it walks for 10 ticks and clears for 10, has lasted in the 20th and gaps out in the 23rd
+stages_on : shows stages all_off (replay leaving begun) 22 ≡
+    replicate 10 (true ∷ false ∷ false ∷ false ∷ []) ++ replicate 9 (false ∷ true ∷ false ∷ false ∷ [])
+    ++ (false ∷ true ∷ true ∷ false ∷ []) ∷ replicate 2 (false ∷ false ∷ true ∷ false ∷ []) ++ (false ∷ false ∷ true ∷ true ∷ []) ∷ []
+unfolding opened leaving
+stages_on = refl
+
+-- ## Its walk
 
 walk_is_10 : walk_time (replay leaving begun).plan 2 (ended_by (phases_again (replay leaving begun)) 2) ≡ 10
 unfolding shown_opened
@@ -122,27 +165,17 @@ a_walk = record {
     phase = ap (λ (x : Option ℕ × Option ℕ × Option ℕ × Option ℕ). x.0) at_begin;
     left = ap (λ (x : Option ℕ × Option ℕ × Option ℕ × Option ℕ). x.1) at_begin;
   };
-  each = each_by (KeepsWalk 2 10 (replay leaving begun)) tests_walk keeps leaving all_off begun 10 walks_on;
+  each = each_by (KeepsWalk 2 10 (replay leaving begun)) tests_times keeps leaving all_off begun 10
+      (passes_first tests_times all_off (replay leaving begun) 10 23 (omega arith) stays_on);
 }
   where
-    keeps : (s : State) (row : Row) → tests_walk s row ≡ true → KeepsWalk 2 10 (replay leaving begun) s row
+    keeps : (s : State) (row : Row) → tests_times s row ≡ true → KeepsWalk 2 10 (replay leaving begun) s row
     keeps s row h =
-        let both = and_parts (walk_time s.plan 2 (ended_by (phases_given s row) 2) == 10) (not (is_resting_in_walk s.plan (phases_given s row) 2)) h in
+        let both = and_parts (walk_time s.plan 2 (ended_by (phases_given s row) 2) == 10) (not (is_resting_in_walk s.plan (phases_given s row) 2))
+        (are_met s row h).walk in
         let ten : walk_time s.plan 2 (ended_by (phases_given s row) 2) ≡ 10 = eqb-true (walk_time s.plan 2 (ended_by (phases_given s row) 2)) 10 both.0 in
         let shown = walk_is_10 in
         record { time = omega (arith, ten, shown); moves_on = λ e. not-true (is_resting_in_walk s.plan (phases_given s row) 2) both.1 }
-
--- it walks for 9 ticks more, and ends in the tenth
-abbrev parts : State → Bool × Bool
-parts s = (is_walk (pedestrian_part s 2), is_clearance (pedestrian_part s 2))
-
-walks_at_9 : parts (replay leaving (ticks all_off 9 ++ begun)) ≡ (true, false)
-unfolding opened leaving
-walks_at_9 = refl
-
-clears_at_10 : parts (replay leaving (ticks all_off 10 ++ begun)) ≡ (false, true)
-unfolding opened leaving
-clears_at_10 = refl
 
 walk_would_show_9 : sooner 10 ((replay leaving begun).phases 2).pedestrian_timer ≡ 9
 unfolding opened leaving
@@ -153,24 +186,26 @@ walk_would_show_9 = refl
 abbrev walked : List Input
 walked = ticks all_off 10 ++ begun
 
--- the phase in service, and what is left of its pedestrian clearance
-abbrev clearance_shown : State → Option ℕ × Option ℕ
-clearance_shown s = ((ring_1 s).phase, (ring_1 s).clearance_left)
+-- the phase in service, what is left of its pedestrian clearance, how long that is, and what the mistake would show
+abbrev Clearing : Type 0
+Clearing = Option ℕ × Option ℕ × ℕ × ℕ
 
-at_clearance : clearance_shown (replay leaving walked) ≡ (Some 2, Some 10)
+abbrev clearance_shown : State → Clearing
+clearance_shown s =
+    ((ring_1 s).phase, (ring_1 s).clearance_left, clearance_time s.plan 2 (ended_by (phases_again s) 2), sooner 10 (s.phases 2).pedestrian_timer)
+
+at_clearance : clearance_shown (replay leaving walked) ≡ (Some 2, Some 10, 10, 9)
 unfolding shown_opened
 at_clearance = refl
 
-abbrev tests_clearance : State → Row → Bool
-tests_clearance s row = clearance_time s.plan 2 (ended_by (phases_given s row) 2) == 10
-
-clears_on : passes tests_clearance all_off (replay leaving walked) 10 ≡ true
-unfolding opened leaving
-clears_on = refl
+clears_on : passes tests_times all_off (replay leaving walked) 10 ≡ true
+clears_on =
+    sym (ap (λ (s : State). passes tests_times all_off s 10) (ticked_is leaving all_off begun 10))
+    ∙ passes_then tests_times all_off (replay leaving begun) 10 10 20 refl
+    (passes_first tests_times all_off (replay leaving begun) 20 23 (omega arith) stays_on)
 
 clearance_is_10 : clearance_time (replay leaving walked).plan 2 (ended_by (phases_again (replay leaving walked)) 2) ≡ 10
-unfolding shown_opened
-clearance_is_10 = refl
+clearance_is_10 = ap (λ (x : Clearing). x.2) at_clearance
 
 walked_at : (replay leaving walked).now ≡ 11
 walked_at = let at = begun_at in let clock = now_then leaving all_off begun 10 in omega (arith, at, clock)
@@ -182,36 +217,21 @@ a_clearance : Meets walked (ticks all_off 10) (IsShown (replay leaving walked) R
     (InEachTick (KeepsClearance 2 (replay leaving walked)) leaving walked (ticks all_off 10))
 a_clearance = record {
   stretch = ticks_stretch leaving all_off walked 10 leaving_consistent walked_taken refl (let at = walked_at in omega (arith, at));
-  shown = record { phase = ap (λ (x : Option ℕ × Option ℕ). x.0) at_clearance; left = ap (λ (x : Option ℕ × Option ℕ). x.1) at_clearance };
-  each = each_by (KeepsClearance 2 (replay leaving walked)) tests_clearance keeps leaving all_off walked 10 clears_on;
+  shown = record { phase = ap (λ (x : Clearing). x.0) at_clearance; left = ap (λ (x : Clearing). x.1) at_clearance };
+  each = each_by (KeepsClearance 2 (replay leaving walked)) tests_times keeps leaving all_off walked 10 clears_on;
 }
   where
-    keeps : (s : State) (row : Row) → tests_clearance s row ≡ true → KeepsClearance 2 (replay leaving walked) s row
+    keeps : (s : State) (row : Row) → tests_times s row ≡ true → KeepsClearance 2 (replay leaving walked) s row
     keeps s row h =
-        let ten : clearance_time s.plan 2 (ended_by (phases_given s row) 2) ≡ 10 = eqb-true (clearance_time s.plan 2 (ended_by (phases_given s row) 2)) 10 h in
+        let ten : clearance_time s.plan 2 (ended_by (phases_given s row) 2) ≡ 10 = eqb-true (clearance_time s.plan 2 (ended_by (phases_given s row) 2)) 10
+        (are_met s row h).clearance in
         let shown = clearance_is_10 in
         omega (arith, ten, shown)
 
-clears_at_19 : parts (replay leaving (ticks all_off 9 ++ walked)) ≡ (false, true)
-unfolding opened leaving
-clears_at_19 = refl
-
-none_at_20 : parts (replay leaving (ticks all_off 10 ++ walked)) ≡ (false, false)
-unfolding opened leaving
-none_at_20 = refl
-
 clearance_would_show_9 : sooner 10 ((replay leaving walked).phases 2).pedestrian_timer ≡ 9
-unfolding opened leaving
-clearance_would_show_9 = refl
+clearance_would_show_9 = ap (λ (x : Clearing). x.3) at_clearance
 
 -- ## Its initial time
-
-abbrev tests_initial : State → Row → Bool
-tests_initial s row = time_to_last s.plan (phases_given s row) 2 (ended_by (phases_given s row) 2) == 20
-
-lasts_on : passes tests_initial all_off (replay leaving begun) 20 ≡ true
-unfolding opened leaving
-lasts_on = refl
 
 initial_is_20 : time_to_last (replay leaving begun).plan (phases_again (replay leaving begun)) 2 (ended_by (phases_again (replay leaving begun)) 2) ≡ 20
 unfolding shown_opened
@@ -225,38 +245,22 @@ an_initial = record {
     phase = ap (λ (x : Option ℕ × Option ℕ × Option ℕ × Option ℕ). x.0) at_begin;
     left = ap (λ (x : Option ℕ × Option ℕ × Option ℕ × Option ℕ). x.2) at_begin;
   };
-  each = each_by (KeepsInitial 2 (replay leaving begun)) tests_initial keeps leaving all_off begun 20 lasts_on;
+  each = each_by (KeepsInitial 2 (replay leaving begun)) tests_times keeps leaving all_off begun 20
+      (passes_first tests_times all_off (replay leaving begun) 20 23 (omega arith) stays_on);
 }
   where
-    keeps : (s : State) (row : Row) → tests_initial s row ≡ true → KeepsInitial 2 (replay leaving begun) s row
+    keeps : (s : State) (row : Row) → tests_times s row ≡ true → KeepsInitial 2 (replay leaving begun) s row
     keeps s row h =
         let all : time_to_last s.plan (phases_given s row) 2 (ended_by (phases_given s row) 2) ≡ 20 =
-        eqb-true (time_to_last s.plan (phases_given s row) 2 (ended_by (phases_given s row) 2)) 20 h in
+        eqb-true (time_to_last s.plan (phases_given s row) 2 (ended_by (phases_given s row) 2)) 20 (are_met s row h).initial in
         let shown = initial_is_20 in
         omega (arith, all, shown)
-
-lasts_in_20 : has_lasted 2 (replay leaving (ticks all_off 19 ++ begun)) all_off ≡ true
-unfolding opened leaving
-lasts_in_20 = refl
-
-not_in_19 : has_lasted 2 (replay leaving (ticks all_off 18 ++ begun)) all_off ≡ false
-unfolding opened leaving
-not_in_19 = refl
 
 initial_would_show_19 : sooner 20 ((replay leaving begun).phases 2).timer ≡ 19
 unfolding opened leaving
 initial_would_show_19 = refl
 
 -- ## Its gap
-
-abbrev tests_gap : State → Row → Bool
-tests_gap s row =
-    is_green (interval s 2) && (not ((phases_given s row).output 2)
-    && gap s.plan 2 (reduction_timer s.plan (phases_given s row) 2 (held_of (phase_read s 2))) == 23)
-
-rests_on : passes tests_gap all_off (replay leaving begun) 23 ≡ true
-unfolding opened leaving
-rests_on = refl
 
 gap_is_23 : gap (replay leaving begun).plan 2 ((replay leaving begun).phases 2).reduction ≡ 23
 unfolding opened leaving
@@ -274,27 +278,19 @@ a_gap = record {
     phase = ap (λ (x : Option ℕ × Option ℕ × Option ℕ × Option ℕ). x.0) at_begin;
     left = ap (λ (x : Option ℕ × Option ℕ × Option ℕ × Option ℕ). x.3) at_begin;
   };
-  each = each_by (KeepsGap 2 (replay leaving begun)) tests_gap keeps leaving all_off begun 23 rests_on;
+  each = each_by (KeepsGap 2 (replay leaving begun)) tests_times keeps leaving all_off begun 23 stays_on;
 }
   where
-    keeps : (s : State) (row : Row) → tests_gap s row ≡ true → KeepsGap 2 (replay leaving begun) s row
+    keeps : (s : State) (row : Row) → tests_times s row ≡ true → KeepsGap 2 (replay leaving begun) s row
     keeps s row h =
         let outer = and_parts (is_green (interval s 2)) (not ((phases_given s row).output 2)
-        && gap s.plan 2 (reduction_timer s.plan (phases_given s row) 2 (held_of (phase_read s 2))) == 23) h in
+        && gap s.plan 2 (reduction_timer s.plan (phases_given s row) 2 (held_of (phase_read s 2))) == 23) (are_met s row h).gap in
         let inner = and_parts (not ((phases_given s row).output 2))
         (gap s.plan 2 (reduction_timer s.plan (phases_given s row) 2 (held_of (phase_read s 2))) == 23) outer.1 in
         let now : gap s.plan 2 (reduction_timer s.plan (phases_given s row) 2 (held_of (phase_read s 2))) ≡ 23 =
         eqb-true (gap s.plan 2 (reduction_timer s.plan (phases_given s row) 2 (held_of (phase_read s 2)))) 23 inner.1 in
         let shown = gap_is_23 in
         record { green = is_in_green (interval s 2) outer.0; quiet = not-true ((phases_given s row).output 2) inner.0; time = omega (arith, now, shown) }
-
-expires_in_23 : has_gapped 2 (replay leaving (ticks all_off 22 ++ begun)) all_off ≡ true
-unfolding opened leaving
-expires_in_23 = refl
-
-not_in_22 : has_gapped 2 (replay leaving (ticks all_off 21 ++ begun)) all_off ≡ false
-unfolding opened leaving
-not_in_22 = refl
 
 gap_would_show_22 : sooner 23 ((replay leaving begun).phases 2).passage ≡ 22
 unfolding opened leaving
@@ -360,7 +356,8 @@ a_maximum = record {
           time = twenty (acting_maximum s.plan (runs s) 2 (s.phases 2).running_maximum) inner.1 ∙ sym maximum_is_20;
         }
 
-maxes_out_in_20 : is_maxed_out 2 (replay leaving (ticks (vehicle 1) 19 ++ called)) (vehicle 1) ≡ true
+-- it maxes out in the 20th tick
+maxes_out_in_20 : shows (λ s. is_maxed_out 2 s (vehicle 1)) (vehicle 1) (replay leaving called) 19 ≡ replicate 19 false ++ true ∷ []
 unfolding opened leaving
 maxes_out_in_20 = refl
 
@@ -368,7 +365,3 @@ maxes_out_in_20 = refl
 maximum_would_show_19 : left 20 ((replay leaving called).phases 2).timer ≡ 19
 unfolding opened leaving
 maximum_would_show_19 = refl
-
-not_maxed_in_19 : is_maxed_out 2 (replay leaving (ticks (vehicle 1) 18 ++ called)) (vehicle 1) ≡ false
-unfolding opened leaving
-not_maxed_in_19 = refl
