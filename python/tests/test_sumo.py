@@ -928,6 +928,8 @@ def test_a_run_that_is_stopped(cars: Path, tmp_path: Path) -> None:
     words += [str(cars / "routes.xml"), "--plan", str(tmp_path / "plan.json")]
     words += ["--mapping", str(cars / "mapping.json"), "--out", str(tmp_path / "out")]
     words += ["--additional", str(cars / "detectors.xml")]
+    # (a run of a whole day, which is not over before this looks again)
+    words += ["--seconds", "86400"]
     with subprocess.Popen(
         words,
         stderr=subprocess.PIPE,
